@@ -1,0 +1,5 @@
+pub mod Operations
+pub mod Words
+pub mod Alarm
+pub mod Cause
+pub mod Standard
