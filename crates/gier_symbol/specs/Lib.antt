@@ -1,0 +1,4 @@
+pub mod Tags
+pub mod Texts
+pub mod Symbols
+pub mod Words
