@@ -1,0 +1,9 @@
+pub mod Drum
+pub mod Pages
+pub mod Log
+pub mod Memory
+pub mod MemDrum
+pub mod FailingDrum
+pub mod ForgetfulDrum
+pub mod FileDrum
+pub mod Laws
