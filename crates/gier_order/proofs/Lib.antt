@@ -1,2 +1,3 @@
 pub mod Recency
 pub mod Standing
+pub mod Table

@@ -1,2 +1,4 @@
 pub mod Misses
 pub mod Counts
+pub mod Table
+pub mod Codes

@@ -79,7 +79,8 @@ impl Recent {
 fn total_from(hits: &[u128], place: usize) -> u128
     requires within { place ≤ length hits.now }
     requires fits { sum hits.now < 2 ^ 128 }
-    ensures { result ≡ sum (drop place hits.now) }
+    ensures value { result ≡ sum (drop place hits.now) }
+    ensures bound { result ≤ sum hits.now }
 {
     total(&hits[place..])
 }
