@@ -43,11 +43,11 @@ before_most f d [] = omega arith
 before_most f d (h ∷ hs) = omega (arith, before_most f d hs, one_if_most (nat_lt (f h) d))
 
 -- a track that isn't referred to now is wanted one later, counted from now
-later : (t : ℕ) (refs : List ℕ) (h : Option ℕ) → is_track t h ≡ false → wanted (t ∷ refs) h ≡ suc (wanted refs h)
+pub later : (t : ℕ) (refs : List ℕ) (h : Option ℕ) → is_track t h ≡ false → wanted (t ∷ refs) h ≡ suc (wanted refs h)
 later t refs None other = refl
 later t refs (Some u) other = rw other refl
 
-at_once : (t : ℕ) (refs : List ℕ) (h : Option ℕ) → is_track t h ≡ true → wanted (t ∷ refs) h ≡ 0
+pub at_once : (t : ℕ) (refs : List ℕ) (h : Option ℕ) → is_track t h ≡ true → wanted (t ∷ refs) h ≡ 0
 at_once t refs None same = cc
 at_once t refs (Some u) same = rw same refl
 

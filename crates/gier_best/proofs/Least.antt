@@ -108,7 +108,7 @@ still_once t p ours none o = record { once = each }
           omega (arith, o.once u, rw other at new)
     ]
 
-place_inside : (refs : List ℕ) (held : List (Option ℕ)) → 0 < length held → place_for refs held < length held
+pub place_inside : (refs : List ℕ) (held : List (Option ℕ)) → 0 < length held → place_for refs held < length held
 place_inside refs held some =
     let mapped : length (map (wanted refs) held) ≡ length held = length-map held (wanted refs) in
     omega (arith, greatest_inside (map (wanted refs) held) (omega arith))

@@ -3,5 +3,10 @@
 #![tactic(auto)]
 
 mod law;
+mod places;
+mod planner;
+mod trace;
+mod uses;
 
 pub use law::law_best;
+pub use trace::Trace;
