@@ -1,0 +1,6 @@
+use Rattle.std.proofs.Common.{◌+◌, ◌≡◌}
+use Rattle.gier_order.specs.Counts.{taken}
+use Rattle.foundation_bench.proofs.recent.refer_to.Given as goal
+
+abbrev pub invariant-loop : goal.invariant-loop
+invariant-loop l = taken l.recent ≡ taken l.fn.recent + l.counter

@@ -1,0 +1,15 @@
+// The opening of a drum in memory.
+
+use gier_drum::{Drum, MemDrum};
+use std::alloc::{AllocError, Global};
+
+/// A drum of so many tracks.
+pub fn open(alloc: Global, tracks: u32) -> Result<MemDrum, AllocError> {
+    let Ok(mut drum) = MemDrum::open(alloc, 0) else {
+        return Err(AllocError);
+    };
+    match drum.make_room(tracks) {
+        Ok(()) => Ok(drum),
+        Err(_) => Err(AllocError),
+    }
+}
