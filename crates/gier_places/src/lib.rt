@@ -1,0 +1,9 @@
+// A few places that hold tracks of the drum. A track that no place holds is read into the place used least recently.
+#![tactic(auto)]
+
+mod places;
+
+pub use places::Places;
+
+#[cfg(test)]
+mod tests;
