@@ -8,7 +8,7 @@ use arguments::read_arguments;
 use gier_io::{StdSink, StdSource};
 use gier_job::{Status, gier, read_words, status_text};
 use std::io;
-use std::io::{BufReader, BufWriter};
+use std::io::{BufReader, BufWriter, Write};
 use std::process::ExitCode;
 use std::rt::Env;
 
@@ -85,7 +85,7 @@ fn run_tape<R: Input + Print + AllocGlobal>(rt: &R, words: &[String]) -> Status 
     let mut tape = StdSource::of(reader);
     let mut printer = StdSink::of(writer);
     let status = gier(rt.alloc(), words, &mut tape, &mut printer);
-    match printer.flush() {
+    match printer.into_inner().flush() {
         Err(_) if status.number() < Status::Tape.number() => Status::Printer,
         _ => status,
     }

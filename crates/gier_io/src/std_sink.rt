@@ -27,20 +27,7 @@ impl<W: Write> StdSink<W> {
         StdSink { inner, failed: 0 }
     }
 
-    /// Flushes the writer; an error is a counted fault.
-    pub fn flush(&mut self) -> Result<(), Failed>
-        ensures kept { Keeps (W.contents (writer_of self.old)) (W.contents (writer_of self.new)) }
-        ensures count { sink_faults self.new ≡
-            (if is_ok result then sink_faults self.old else count_after (sink_faults self.old)) }
-        ensures cause { HasCause (sink_faults self.old) (sink_faults self.new) result }
-    {
-        match self.inner.flush() {
-            Ok(()) => Ok(()),
-            Err(_) => Err(self.fault()),
-        }
-    }
-
-    /// The writer.
+    /// The writer. One that keeps bytes back is still to be flushed.
     pub fn into_inner(self) -> W
         ensures { result ≡ writer_of self }
     {

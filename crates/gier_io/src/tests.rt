@@ -75,12 +75,10 @@ fn reader_that_fails_in_mid_stream(rt: HostRuntime) {
 }
 
 // A writer that takes two bytes a call, but none at the third call, and fails at the sixth.
-// Its first flush fails.
 #[derive(Drop)]
 struct Sluggish {
     taken: Vec<u8>,
     calls: u8,
-    flushes: u8,
 }
 
 impl Write for Sluggish {
@@ -97,10 +95,6 @@ impl Write for Sluggish {
     }
 
     fn flush(&mut self) -> io::Result<()> {
-        self.flushes = self.flushes.saturating_add(1);
-        if self.flushes == 1 {
-            return Err(ErrorKind::BrokenPipe.into());
-        }
         Ok(())
     }
 }
@@ -110,16 +104,12 @@ fn writer_that_fails_in_mid_stream(rt: HostRuntime) {
     let mut sink = StdSink::of(Sluggish {
         taken: Vec::new(rt.alloc()),
         calls: 0,
-        flushes: 0,
     });
     assert_eq!(rt; sink.put(b"abcde"), Err(Failed));
     assert_eq!(rt; sink.put(b"fgh"), Ok(()));
     assert_eq!(rt; sink.put(b"ij"), Err(Failed));
     assert_eq!(rt; sink.put(b""), Ok(()));
     assert_eq!(rt; sink.put(b"k"), Ok(()));
-    assert_eq!(rt; sink.flush(), Err(Failed));
-    assert_eq!(rt; sink.flush(), Ok(()));
     let writer = sink.into_inner();
     assert_eq!(rt; writer.taken.as_slice(), b"abcdfghk".as_slice());
-    assert_eq!(rt; writer.flushes, 2);
 }
