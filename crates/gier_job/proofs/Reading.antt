@@ -1,5 +1,5 @@
 -- Reading the words from the left: what has been read so far is the settings of some words, and no other settings.
-use Rattle.std.proofs.Common.{◌≡◌, ◌≢◌, ◌<◌, ◌≤◌, ◌+◌, ◌-◌, ◌⊎◌, ℕ, zero, suc, Bool, true, false, List, [], ◌∷◌, ◌++◌, Option, Some, None, map, take, length, All, get_or, arith, refl, ap, sym, ◌∙◌, subst, inl, inr, eqb, ◌||◌, lit<, add-one, length-append}
+use Rattle.std.proofs.Common.{◌≡◌, ◌≢◌, ◌<◌, ◌≤◌, ◌+◌, ◌-◌, ◌⊎◌, ℕ, zero, suc, Bool, true, false, List, [], ◌∷◌, ◌++◌, Some, map, take, length, All, get_or, arith, refl, ap, sym, ◌∙◌, subst, inl, inr, eqb, ◌||◌, lit<, add-one, length-append}
 use Rattle.std.proofs.lemmas.List.{length-take, length-map}
 use Rattle.std.proofs.lemmas.Bool.Decides.{nat_tests}
 use Rattle.std.proofs.Math.Seq.{take-suc}

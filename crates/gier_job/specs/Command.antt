@@ -1,5 +1,5 @@
 -- Which lists of words are a command, and which is the first wrong word of all others.
-use Rattle.std.specs.Prelude.{◌≡◌, ◌≢◌, ◌≤◌, ◌<◌, ◌-◌, ◌⊎◌, ℕ, suc, Bool, true, false, List, [], ◌∷◌, Option, None, Some, take, length, codes, All, ⊤}
+use Rattle.std.specs.Prelude.{◌≡◌, ◌≢◌, ◌≤◌, ◌-◌, ◌⊎◌, ℕ, Bool, true, false, List, [], ◌∷◌, None, Some, take, length, codes, All, ⊤}
 use Rattle.std.specs.List.{AllZip}
 use Rattle.gier_job.specs.Words.{Makes}
 use Rattle.gier_job.specs.declared.words.Key.{Key}

@@ -1,7 +1,7 @@
 -- The programs that can be run so far: `_begin`, statements with `;` between them, `_end`. A statement is nothing, `outcr` or
 -- `outinteger(` a sum of numbers `)`. Layout may stand anywhere but within `_begin` and `_end`.
 -- A text is read byte by byte: where the reader stands, what it does at a byte, and what a run prints.
-use Rattle.std.specs.Prelude.{◌≡◌, ◌==◌, ◌&&◌, ◌||◌, ◌+◌, ◌-◌, ◌*◌, ◌++◌, ℕ, Bool, true, false, nat_le, if◌then◌else◌, List, [], ◌∷◌, Option, None, Some, slice_get, length, codes, decimal}
+use Rattle.std.specs.Prelude.{◌==◌, ◌&&◌, ◌||◌, ◌+◌, ◌-◌, ◌*◌, ◌++◌, ℕ, Bool, true, false, nat_le, if◌then◌else◌, List, [], ◌∷◌, Option, None, Some, slice_get, length, codes, decimal}
 use Rattle.gier_word.specs.Standard.{line_text, is_digit}
 use Rattle.gier_job.specs.declared.sums.Spelled.{Spelled}
 use Rattle.gier_job.specs.declared.sums.Spelled.TheVariants.{Begin, NewLine, Integer, End}

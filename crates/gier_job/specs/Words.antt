@@ -1,5 +1,5 @@
 -- What the words of the command line mean: the first is `check` or `run`, and each other one is `name=value`.
-use Rattle.std.specs.Prelude.{◌≡◌, ◌≤◌, ℕ, Bool, true, false, if◌then◌else◌, List, [], ◌∷◌, ◌++◌, codes, decimal}
+use Rattle.std.specs.Prelude.{◌≡◌, ◌≤◌, ℕ, Bool, true, false, if◌then◌else◌, List, ◌∷◌, ◌++◌, codes, decimal}
 use Rattle.gier_job.specs.declared.words.Key.{Key}
 use Rattle.gier_job.specs.declared.words.Key.TheVariants.{Places, Steps, Stack, Report, Table, Sample, Best, Mortem}
 use Rattle.gier_job.specs.declared.words.Setting.{Setting}

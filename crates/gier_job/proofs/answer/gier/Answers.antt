@@ -1,4 +1,4 @@
-use Rattle.std.proofs.Common.{◌≡◌, List, ℕ, map, subst, sym, refl}
+use Rattle.std.proofs.Common.{◌≡◌, ℕ, map, subst, sym, refl}
 use Rattle.std.specs.String.{string_bytes}
 use Rattle.gier_job.specs.Answer.{Answers, Refuses, tape_answer}
 use Rattle.gier_job.specs.declared.command.Command.{Command}

@@ -1,8 +1,7 @@
-use Rattle.std.proofs.Common.{◌≡◌, ◌<◌, ◌+◌, ◌∷◌, List, ℕ, map, length, get_or, take, All, arith, sym, ◌∙◌, ap, subst, lit<, refl, Global}
+use Rattle.std.proofs.Common.{◌≡◌, ◌<◌, ◌+◌, ◌∷◌, List, ℕ, map, length, get_or, arith, sym, ◌∙◌, ap, lit<, refl, Global}
 use Rattle.std.proofs.lemmas.List.{get_or-map, length-map}
 use Rattle.std.specs.String.{string_bytes}
 use Rattle.gier_job.specs.Command.{NotGiven, mode_word}
-use Rattle.gier_job.specs.Words.{IsPermitted}
 use Rattle.gier_job.specs.declared.words.Setting.{Setting}
 use Rattle.gier_job.proofs.Reading.{few, step, refuse, permitted}
 use Rattle.gier_job.proofs.command.read_words.Goals as goal

@@ -1,9 +1,9 @@
-use Rattle.std.proofs.Common.{◌≡◌, ◌∷◌, ◌+◌, ◌<◌, List, ℕ, Option, Some, None, drop, drop-cons, add-one, length, sym, ◌∙◌, ap, subst, get_or, refl}
+use Rattle.std.proofs.Common.{◌≡◌, ◌∷◌, ◌+◌, ◌<◌, List, ℕ, Some, None, drop, drop-cons, add-one, length, sym, ◌∙◌, ap, subst, get_or}
 use Rattle.std.proofs.lemmas.Result.{err_from_is_err_and}
 use Rattle.gier_io.specs.Device.{Puts, PutsPart}
 use Rattle.gier_job.specs.Sums.{sum_after, event_of, bytes_of, printed}
 use Rattle.gier_job.specs.declared.sums.Event.{Event}
-use Rattle.gier_job.proofs.Prints.{running_more, running_spilled, running_part, spills}
+use Rattle.gier_job.proofs.Prints.{running_more, running_spilled, running_part}
 use Rattle.gier_job.proofs.sums.run_program.Goals as goal
 
 cut : (text : List ℕ) (k : ℕ) → k < length text → drop k text ≡ get_or text k 0 ∷ drop (k + 1) text

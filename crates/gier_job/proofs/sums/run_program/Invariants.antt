@@ -1,4 +1,4 @@
-use Rattle.std.proofs.Common.{◌≡◌, drop}
+use Rattle.std.proofs.Common.{drop}
 use Rattle.gier_job.proofs.Prints.{IsRunning}
 use Rattle.gier_job.proofs.sums.run_program.Given as goal
 

@@ -1,6 +1,6 @@
-use Rattle.std.proofs.Common.{◌≡◌, Some, None, inl, inr, refl, ap, sym, ◌∙◌, ◌⊎◌, ◌≢◌, Option, ℕ, arith, length}
+use Rattle.std.proofs.Common.{◌≡◌, Some, inl, inr, ap, ◌∙◌, ℕ, arith, length}
 use Rattle.gier_job.specs.Tape.{longest}
-use Rattle.gier_job.proofs.Texts.{whole_text, too_long, read_one, read_part}
+use Rattle.gier_job.proofs.Texts.{whole_text, too_long, read_part}
 use Rattle.gier_job.proofs.tape.read_text.Goals as goal
 
 pub returns-in-Ok-None-clause-text : goal.returns-in-Ok-None-clause-text

@@ -1,4 +1,4 @@
-use Rattle.std.proofs.Common.{◌≤◌, ◌-◌, length, vec_capacity}
+use Rattle.std.proofs.Common.{◌-◌, length, vec_capacity}
 use Rattle.gier_job.specs.Tape.{longest}
 use Rattle.gier_job.proofs.Texts.{IsReading}
 use Rattle.gier_job.proofs.tape.read_text.Given as goal
