@@ -1,0 +1,64 @@
+-- Lists of the values of a function at the numbers below one, and what is left of them.
+use Rattle.std.proofs.Common.{◌<◌, ◌≡◌, ℕ, zero, suc, ◌+◌, ◌≤◌, List, [], ◌∷◌, ◌++◌, length, take, drop, get_or, replicate, reverse, refl, ap, sym, ◌∙◌, arith, inl, inr, length-append, length-drop, add-one}
+use Rattle.std.proofs.lemmas.Bool.{cases_eq, cases_lt}
+use Rattle.std.proofs.lemmas.List.{ext_get_or, get_or_append_left, get_or_at, get_or-drop, take_all, take-append-le, drop_more, reverse-append}
+use Rattle.gier_text.specs.Coded.{listed}
+
+pub length-listed : {A : Type 0} (f : ℕ → A) (n : ℕ) → length (listed f n) ≡ n
+length-listed f zero = refl
+length-listed f (suc n) = length-append (listed f n) (f n ∷ []) ∙ omega (arith, length-listed f n)
+
+pub listed_same : {A : Type 0} (f g : ℕ → A) (n : ℕ) → ((i : ℕ) → i < n → f i ≡ g i) → listed f n ≡ listed g n
+listed_same f g zero same = refl
+listed_same f g (suc n) same = rw (listed_same f g n (λ i lt. same i (omega arith)), same n (omega arith)) refl
+
+pub get_or-listed : {A : Type 0} (f : ℕ → A) (n i : ℕ) (d : A) → i < n → get_or (listed f n) i d ≡ f i
+get_or-listed f zero i d lt = absurd (omega arith)
+get_or-listed f (suc n) i d lt = elim (cases_eq i n) [
+  | inl e ↦ rw e (get_or_at (listed f n) (f n) [] d n (length-listed f n))
+  | inr ne ↦ let below : i < length (listed f n) = omega (arith, length-listed f n) in get_or_append_left (listed f n) (f n ∷ []) d i below ∙ get_or-listed f n i d (omega arith)
+]
+
+pub take-listed : {A : Type 0} (f : ℕ → A) (m n : ℕ) → m ≤ n → take m (listed f n) ≡ listed f m
+take-listed f m zero le = let none : m ≡ 0 = omega arith in rw none refl
+take-listed f m (suc n) le = elim (cases_eq m (suc n)) [
+  | inl e ↦ rw e (take_all (suc n) (listed f (suc n)) (omega (arith, length-listed f (suc n))))
+  | inr ne ↦ let fits : m ≤ length (listed f n) = omega (arith, length-listed f n) in take-append-le m (listed f n) (f n ∷ []) fits ∙ take-listed f m n (omega arith)
+]
+
+nothing : {A : Type 0} (l : List A) → length l ≡ 0 → l ≡ []
+nothing [] e = refl
+nothing (x ∷ l) e = absurd (omega arith)
+
+pub drop_past : {A : Type 0} (l : List A) (m : ℕ) → length l ≤ m → drop m l ≡ []
+drop_past l zero le = nothing l (omega arith)
+drop_past [] (suc m) le = refl
+drop_past (x ∷ l) (suc m) le = drop_past l m (omega arith)
+
+drop_same : {A : Type 0} (f g : ℕ → A) (n m : ℕ) → ((i : ℕ) → m ≤ i → i < n → f i ≡ g i) → drop m (listed f n) ≡ drop m (listed g n)
+drop_same {A} f g n m same = elim (cases_lt m n) [
+  | inl lt ↦ ext_get_or (f 0) (drop m (listed f n)) (drop m (listed g n)) (omega (arith, length-drop m (listed f n), length-drop m (listed g n), length-listed f n, length-listed g n))
+      (λ i below. let within : m + i < n = omega (arith, length-drop m (listed f n), length-listed f n) in
+      rw (get_or-drop m (listed f n) i (f 0), get_or-drop m (listed g n) i (f 0), get_or-listed f n (m + i) (f 0) within, get_or-listed g n (m + i) (f 0) within) (same (m + i) (omega arith) within))
+  | inr past ↦ drop_past (listed f n) m (omega (arith, length-listed f n)) ∙ sym (drop_past (listed g n) m (omega (arith, length-listed g n)))
+]
+
+-- a step of reading, on plain functions
+pub step_forward : {A : Type 0} (f g : ℕ → A) (n at : ℕ) → at < n → ((i : ℕ) → at ≤ i → i < n → f i ≡ g i) → drop at (listed f n) ≡ g at ∷ drop (at + 1) (listed g n)
+step_forward {A} f g n at lt same =
+    let below : at < length (listed f n) = omega (arith, length-listed f n) in
+    drop_more (listed f n) at (f at) below
+    ∙ rw (get_or-listed f n at (f at) lt, same at (omega arith) lt) (ap (λ (l : List A). g at ∷ l) (drop_same f g n (at + 1) (λ i from. same i (omega arith))))
+
+pub step_backward : {A : Type 0} (f g : ℕ → A) (n at : ℕ) → at < n → ((i : ℕ) → i ≤ at → f i ≡ g i) → reverse (take (at + 1) (listed f n)) ≡ g at ∷ reverse (take at (listed g n))
+step_backward f g n at lt same =
+    rw (take-listed f (at + 1) n (omega arith), take-listed g at n (omega arith), add-one)
+    (reverse-append (listed f at) (f at ∷ []) ∙ rw (same at (omega arith), listed_same f g at (λ i below. same i (omega arith))) refl)
+
+pub listed_more : {A : Type 0} (f g : ℕ → A) (n : ℕ) (s : A) → ((i : ℕ) → i < n → f i ≡ g i) → g n ≡ s → listed g (n + 1) ≡ listed f n ++ s ∷ []
+listed_more f g n s same here = rw (add-one, listed_same f g n same, here) refl
+
+pub zeros : (n k : ℕ) → get_or {A = ℕ} (replicate n 0) k 0 ≡ 0
+zeros zero k = refl
+zeros (suc n) zero = refl
+zeros (suc n) (suc k) = zeros n k

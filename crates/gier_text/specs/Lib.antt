@@ -1,0 +1,9 @@
+pub mod Left
+pub mod View
+pub mod Stops
+pub mod Coded
+pub mod Log
+pub mod Passes
+pub mod Driven
+pub mod Lists
+pub mod Kept
