@@ -1,10 +1,12 @@
-// Times the foundations: regions, lists of recent tracks and drums. With the argument `measure` it prints how they
+// Times the foundations: regions, lists of recent tracks, drums, texts and places. With the argument `measure` it prints how they
 // compare with plain loops; without it it works a little and prints what it found, which is always the same.
 #![tactic(auto)]
 
 mod drums;
 mod measure;
+mod places;
 mod recent;
+mod texts;
 mod words;
 
 use std::{env, io};
@@ -35,5 +37,10 @@ fn show_few(rt: &HostRuntime) -> io::Result<()> {
     let region = words::in_region(alloc, FEW)?;
     let misses = recent::misses_of_one(FEW);
     let opened = drums::open(alloc, FEW).is_ok();
-    println!(rt; "words {plain} {region}, misses {misses}, drum opened {opened}")
+    println!(rt; "words {plain} {region}, misses {misses}, drum opened {opened}")?;
+    let through_drum = texts::through_drum(alloc, FEW)?;
+    let through_vec = texts::through_vec(alloc, FEW)?;
+    let referred = places::of_newest(alloc, FEW)?;
+    let indexed = places::of_array(FEW);
+    println!(rt; "symbols {through_drum} {through_vec}, words of a track {referred} {indexed}")
 }

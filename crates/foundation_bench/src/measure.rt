@@ -1,10 +1,13 @@
 // What each foundation takes, against a plain loop that does the same.
 
-use crate::{drums, recent, words};
+use crate::{drums, places, recent, texts, words};
 use std::io;
 use std::time::{Duration, Instant};
 
 const TURNS: u32 = 20_000_000;
+
+// About as many symbols as the texts of the longest program have.
+const SYMBOLS: u32 = 8_000_000;
 
 // As many tracks as the longest program needs.
 const TRACKS: u32 = 1_468_015;
@@ -13,7 +16,9 @@ const TRACKS: u32 = 1_468_015;
 pub fn all(rt: &HostRuntime) -> io::Result<()> {
     opening(rt)?;
     reading_words(rt)?;
-    referring(rt)
+    referring(rt)?;
+    writing_symbols(rt)?;
+    using_places(rt)
 }
 
 fn opening(rt: &HostRuntime) -> io::Result<()> {
@@ -52,6 +57,44 @@ fn referring(rt: &HostRuntime) -> io::Result<()> {
         "the newest track behind 64, to behind none",
         many_took,
         few_took,
+    )
+}
+
+fn writing_symbols(rt: &HostRuntime) -> io::Result<()> {
+    let start = Instant::now(rt)?;
+    let copied = texts::through_vec(rt.alloc(), SYMBOLS)?;
+    let copied_took = start.elapsed(rt)?;
+    let start = Instant::now(rt)?;
+    let written = texts::through_drum(rt.alloc(), SYMBOLS)?;
+    let written_took = start.elapsed(rt)?;
+    println!(rt;
+        "symbols of a vector and a text agree: {}",
+        copied == written
+    )?;
+    show_ratio(
+        rt,
+        "a symbol through a text (6 times is wanted), to one through a vector",
+        written_took,
+        copied_took,
+    )
+}
+
+fn using_places(rt: &HostRuntime) -> io::Result<()> {
+    let start = Instant::now(rt)?;
+    let indexed = places::of_array(TURNS);
+    let indexed_took = start.elapsed(rt)?;
+    let start = Instant::now(rt)?;
+    let referred = places::of_newest(rt.alloc(), TURNS)?;
+    let referred_took = start.elapsed(rt)?;
+    println!(rt;
+        "words of an array and of a place agree: {}",
+        indexed == referred
+    )?;
+    show_ratio(
+        rt,
+        "a word of the newest track (3 times is wanted), to one of an array",
+        referred_took,
+        indexed_took,
     )
 }
 
