@@ -41,6 +41,6 @@ fn show_few(rt: &HostRuntime) -> io::Result<()> {
     let through_drum = texts::through_drum(alloc, FEW)?;
     let through_vec = texts::through_vec(alloc, FEW)?;
     let referred = places::of_newest(alloc, FEW)?;
-    let indexed = places::of_array(FEW);
+    let indexed = places::of_vec(alloc, FEW)?;
     println!(rt; "symbols {through_drum} {through_vec}, words of a track {referred} {indexed}")
 }

@@ -81,18 +81,18 @@ fn writing_symbols(rt: &HostRuntime) -> io::Result<()> {
 
 fn using_places(rt: &HostRuntime) -> io::Result<()> {
     let start = Instant::now(rt)?;
-    let indexed = places::of_array(TURNS);
+    let indexed = places::of_vec(rt.alloc(), TURNS)?;
     let indexed_took = start.elapsed(rt)?;
     let start = Instant::now(rt)?;
     let referred = places::of_newest(rt.alloc(), TURNS)?;
     let referred_took = start.elapsed(rt)?;
     println!(rt;
-        "words of an array and of a place agree: {}",
+        "words of a vector and of a place agree: {}",
         indexed == referred
     )?;
     show_ratio(
         rt,
-        "a word of the newest track (3 times is wanted), to one of an array",
+        "a word of the newest track (3 times is wanted), to one of a vector",
         referred_took,
         indexed_took,
     )

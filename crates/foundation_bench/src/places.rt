@@ -1,4 +1,4 @@
-// The same word of the track that was used last, through the places and in an array.
+// The same word of the track that was used last, through the places and in a vector.
 ghost use Rattle.std.specs.Prelude.{◌+◌, ◌<◌, ◌^◌};
 
 use crate::drums;
@@ -31,14 +31,20 @@ fn refer_in_turn<D: Drum>(places: &mut Places, drum: &mut D, turns: u32) -> u64
     sum
 }
 
-/// The same words of an array.
-pub fn of_array(turns: u32) -> u64 {
-    let words = [0u64; 40];
+/// The same words of a vector, which is as long as a track.
+pub fn of_vec(alloc: Global, turns: u32) -> Result<u64, AllocError> {
+    let words = vec![in alloc; 0u64; 40]?;
+    Ok(index_in_turn(words.as_slice(), turns))
+}
+
+#[inline(never)]
+fn index_in_turn(words: &[u64], turns: u32) -> u64 {
     let mut sum = 0u64;
     for turn in 0..turns {
-        sum = sum
-            .wrapping_add(words[turn as usize % 40])
-            .wrapping_add(u64::from(turn));
+        let place = turn as usize % 40;
+        if place < words.len() {
+            sum = sum.wrapping_add(words[place]).wrapping_add(u64::from(turn));
+        }
     }
     sum
 }
