@@ -1,0 +1,13 @@
+use Rattle.std.proofs.Common.{arith, ap, length, ◌≤◌, List}
+use Rattle.gier_symbol.specs.declared.symbol.Symbol.{Symbol}
+use Rattle.gier_text.specs.Kept.{kept}
+use Rattle.gier_text.proofs.Driven.{OnOk-map}
+use Rattle.gier_pass2.specs.Standing.{waiting_in}
+use Rattle.gier_pass2.proofs.GoingOn.{relates_end}
+use Rattle.gier_pass2.proofs.pass.Pass2Pass.end.Goals as goal
+
+pub returns-clause-ok : goal.returns-clause-ok
+returns-clause-ok g c =
+    let ws = c.as_slice.result.now in
+    let few : length ws ≤ waiting_in c.args.self.now = omega (arith, ap (λ (l : List Symbol). length l) c.as_slice.ensures.listed, c.rest-ready.ensures.few) in
+    OnOk-map c.write_all.result _ _ (λ wrote. (ws, wrote, λ read written stands. relates_end c.args.self.now c.rest-ready.new.self (kept c.args.tables.now) (kept c.rest-ready.new.tables) read written ws stands few c.as_slice.ensures.writable)) c.write_all.ensures.written

@@ -1,0 +1,52 @@
+-- What the pass keeps while it takes symbols, what holds at its end, and which lists it is meant for.
+use Rattle.std.specs.Prelude.{◌≡◌, ◌≤◌, ◌+◌, ℕ, List, length, All, IsTrue}
+use Rattle.gier_symbol.specs.declared.symbol.Symbol.{Symbol}
+use Rattle.gier_symbol.specs.Texts.{stands_in}
+use Rattle.gier_text.specs.Kept.{Kept}
+use Rattle.gier_text.specs.Lists.{list_at}
+use Rattle.gier_pass2.specs.declared.pass.Pass2.{Pass2}
+use Rattle.gier_pass2.specs.Letters.{IsWritable}
+use Rattle.gier_pass2.specs.Names.{HasNodes, node_count}
+use Rattle.gier_pass2.specs.Runs.{IsRun, running}
+use Rattle.gier_pass2.specs.Waiting.{symbols_of, IsWaiting}
+
+-- how many symbols are still to be given for those that were taken
+abbrev pub waiting_in : Pass2 → ℕ
+waiting_in pass = length (symbols_of pass.waiting) + running pass.run
+
+-- fields and tables fit each other; there are no more nodes, numbers of identifiers and faults than symbols and the
+-- standard identifiers need
+pub record IsReady (pass : Pass2) (t : Kept) : Type 0 where
+  pub nodes : HasNodes t
+  pub capacity : (list_at t.lists 0).capacity ≡ pass.bytes + 64
+  pub few_nodes : node_count t ≤ 60 + pass.read
+  pub few_names : pass.known ≤ 60 + pass.read
+  pub few_faults : length t.faults ≤ pass.read
+  pub small : t.limit ≤ 524288
+  pub limit : pass.bytes ≤ t.limit
+  pub within : pass.read ≤ pass.bytes + 1
+  pub waiting : IsWaiting pass.waiting
+
+-- the same in a run
+pub record HasRun (pass : Pass2) (t : Kept) : Type 0 where
+  pub ready : IsReady pass t
+  pub run : IsRun pass.run (node_count t)
+  pub room : length t.faults + running pass.run ≤ pass.read
+  pub names : pass.known + running pass.run ≤ 60 + pass.read
+
+-- so many symbols were taken; no more are written or wait, and those that are written are letters of text 2
+pub record Stands (pass : Pass2) (t : Kept) (read written : List Symbol) : Type 0 where
+  pub run : HasRun pass t
+  pub taken : pass.read ≡ length read
+  pub few : length written + waiting_in pass ≤ length read
+  pub letters : All IsWritable written
+
+-- no more symbols are written than were taken, and they are letters of text 2; there are no more faults
+pub record Relates (pass : Pass2) (t : Kept) (read written : List Symbol) : Type 0 where
+  pub few : length written ≤ length read
+  pub letters : All IsWritable written
+
+-- letters of text 1, at most one for each byte and one for the end
+pub record IsTextOne (bytes : ℕ) (list : List Symbol) : Type 0 where
+  pub letters : All (λ s. IsTrue (stands_in 1 s.tag)) list
+  pub few : length list ≤ bytes + 1

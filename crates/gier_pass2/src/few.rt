@@ -1,0 +1,47 @@
+// A few symbols that one step of the pass gives. What they are isn't told here.
+ghost use Rattle.std.specs.Prelude.{◌≡◌, ◌≤◌, ◌<◌, ◌++◌, ◌∷◌, [], All, length, take};
+ghost use Rattle.gier_pass2.specs.Letters.{IsWritable};
+
+use gier_symbol::{Symbol, Tag};
+
+// As many as one symbol of the input gives at most: three that waited, a run that it ends, and itself.
+const MOST: usize = 5;
+
+/// Symbols that are ready to be written, in order.
+#[derive(Debug, Clone, Copy)]
+pub(crate) struct Few {
+    symbols: [Symbol; MOST],
+    count: usize,
+    ghost within: { count ≤ 5 },
+    ghost writable: { All IsWritable symbols },
+}
+
+impl Few {
+    ghost use Rattle.gier_pass2.specs.Given.{listed};
+
+    pub(crate) fn none() -> Few
+        ensures { listed result ≡ [] }
+    {
+        Few {
+            symbols: [Symbol::new(Tag::TextEnd, 0, 0); MOST],
+            count: 0,
+        }
+    }
+
+    pub(crate) fn push(&mut self, s: Symbol)
+        requires room { length (listed self.old) < 5 }
+        requires writable { IsWritable s }
+        ensures { listed self.new ≡ listed self.old ++ s ∷ [] }
+    {
+        self.symbols[self.count] = s;
+        self.count += 1;
+    }
+
+    pub(crate) fn as_slice(&self) -> &[Symbol]
+        ensures listed { result.now ≡ listed self.now }
+        ensures writable { All IsWritable result.now }
+        ensures few { length result.now ≤ 5 }
+    {
+        &self.symbols[..self.count]
+    }
+}

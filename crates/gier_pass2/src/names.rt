@@ -1,0 +1,167 @@
+// The tree of names: each identifier that was read, letter by letter, with its number.
+//
+// A node stands for a name. Its children are the names with one symbol more; each links to the one that came before it.
+ghost use Rattle.std.specs.Prelude.{◌≡◌, ◌≤◌, ◌<◌, ◌+◌, ◌*◌, ◌^◌, length};
+ghost use Rattle.gier_symbol.specs.Symbols.{IsSymbol};
+ghost use Rattle.gier_text.specs.Kept.{kept};
+ghost use Rattle.gier_text.specs.Lists.{list_at};
+ghost use Rattle.gier_pass2.specs.Names.{HasNodes, KeepsNodes, node_count};
+
+use gier_symbol::{Symbol, Tag};
+use gier_text::Tables;
+
+// The list of nodes, the only one of this pass. The first node is the empty name.
+const NODES: u8 = 0;
+
+const ROOT: u32 = 0;
+
+// The parts of a node: its last symbol's tag and value, the child of the same parent before it, its last child, and
+// its number increased by 1. Each of the last three is 0 where there is none.
+const TAG: u8 = 0;
+
+const VALUE: u8 = 1;
+
+const ELDER: u8 = 2;
+
+const CHILD: u8 = 3;
+
+const NUMBER: u8 = 4;
+
+const WIDTH: u8 = 5;
+
+// Room for the nodes of the standard identifiers.
+const STANDARD_ROOM: u32 = 64;
+
+// The standard identifiers, each with a space behind it.
+const STANDARD: &[u8] = b"outinteger outtext outcr outchar ininteger inchar abs sign ";
+
+fn link(tables: &Tables, node: u32, part: u8, below: u32) -> u32
+    requires nodes { HasNodes (kept tables.now) }
+    requires node { node < node_count (kept tables.now) }
+    requires part { part < 5 }
+    requires some { 0 < below }
+    ensures { result < below }
+{
+    let word = tables.word(NODES, node, part);
+    if word < u64::from(below) {
+        word as u32
+    } else {
+        ROOT
+    }
+}
+
+fn is_at(tables: &Tables, node: u32, s: Symbol) -> bool
+    requires nodes { HasNodes (kept tables.now) }
+    requires node { node < node_count (kept tables.now) }
+{
+    tables.word(NODES, node, TAG) == u64::from(s.tag) && tables.word(NODES, node, VALUE) == s.value
+}
+
+// The node of the name with one symbol more, or the root where there is none.
+fn child(tables: &Tables, node: u32, s: Symbol) -> u32
+    requires nodes { HasNodes (kept tables.now) }
+    requires node { node < node_count (kept tables.now) }
+    ensures { result < node_count (kept tables.now) }
+{
+    let mut at = link(tables, node, CHILD, tables.len(NODES));
+    while at != ROOT && !is_at(tables, at, s) {
+        at = link(tables, at, ELDER, at);
+    }
+    at
+}
+
+fn add_child(tables: &mut Tables, node: u32, s: Symbol) -> u32
+    requires nodes { HasNodes (kept tables.old) }
+    requires node { node < node_count (kept tables.old) }
+    requires symbol { IsSymbol s }
+    requires room { node_count (kept tables.old) < (list_at (kept tables.old).lists 0).capacity }
+    requires small { (list_at (kept tables.old).lists 0).capacity < 2 ^ 32 }
+    ensures kept { KeepsNodes (kept tables.old) (kept tables.new) }
+    ensures more { node_count (kept tables.new) ≡ node_count (kept tables.old) + 1 }
+    ensures node { result < node_count (kept tables.new) }
+{
+    let elder = tables.word(NODES, node, CHILD);
+    let at = tables.len(NODES);
+    tables.push(NODES, &[u64::from(s.tag), s.value, elder, 0, 0]);
+    tables.set_word(NODES, node, CHILD, u64::from(at));
+    at
+}
+
+/// The node of the name with one symbol more, which is added where there is none.
+pub(crate) fn step(tables: &mut Tables, node: u32, s: Symbol) -> u32
+    requires nodes { HasNodes (kept tables.old) }
+    requires node { node < node_count (kept tables.old) }
+    requires symbol { IsSymbol s }
+    requires room { node_count (kept tables.old) < (list_at (kept tables.old).lists 0).capacity }
+    requires small { (list_at (kept tables.old).lists 0).capacity < 2 ^ 32 }
+    ensures kept { KeepsNodes (kept tables.old) (kept tables.new) }
+    ensures few { node_count (kept tables.new) ≤ node_count (kept tables.old) + 1 }
+    ensures node { result < node_count (kept tables.new) }
+{
+    let known = child(tables, node, s);
+    if known != ROOT {
+        return known;
+    }
+    add_child(tables, node, s)
+}
+
+/// The first step of a name.
+pub(crate) fn first(tables: &mut Tables, s: Symbol) -> u32
+    requires nodes { HasNodes (kept tables.old) }
+    requires symbol { IsSymbol s }
+    requires room { node_count (kept tables.old) < (list_at (kept tables.old).lists 0).capacity }
+    requires small { (list_at (kept tables.old).lists 0).capacity < 2 ^ 32 }
+    ensures kept { KeepsNodes (kept tables.old) (kept tables.new) }
+    ensures few { node_count (kept tables.new) ≤ node_count (kept tables.old) + 1 }
+    ensures node { result < node_count (kept tables.new) }
+{
+    step(tables, ROOT, s)
+}
+
+/// The number of the identifier with this name; a new one gets the next number.
+pub(crate) fn number(tables: &mut Tables, node: u32, names: &mut u32) -> u64
+    requires nodes { HasNodes (kept tables.old) }
+    requires node { node < node_count (kept tables.old) }
+    requires few { names.old + 1 < 2 ^ 32 }
+    ensures kept { KeepsNodes (kept tables.old) (kept tables.new) }
+    ensures same { node_count (kept tables.new) ≡ node_count (kept tables.old) }
+    ensures few { names.new ≤ names.old + 1 }
+    ensures value { result < 2 ^ 40 }
+{
+    let known = tables.word(NODES, node, NUMBER);
+    if known != 0 {
+        return known - 1;
+    }
+    let number = *names;
+    *names = number + 1;
+    tables.set_word(NODES, node, NUMBER, u64::from(number) + 1);
+    u64::from(number)
+}
+
+/// Opens the tree with the standard identifiers, and gives how many they are.
+pub(crate) fn open(tables: &mut Tables, bytes: u32) -> u32
+    requires cleared { length (kept tables.old).lists ≡ 0 }
+    requires unused { (kept tables.old).used ≡ 0 }
+    requires limit { (kept tables.old).limit ≤ 2 ^ 19 }
+    requires bytes { bytes ≤ (kept tables.old).limit }
+    ensures nodes { HasNodes (kept tables.new) }
+    ensures capacity { (list_at (kept tables.new).lists 0).capacity ≡ bytes + 64 }
+    ensures few { node_count (kept tables.new) ≤ 60 }
+    ensures limit { (kept tables.new).limit ≡ (kept tables.old).limit }
+    ensures faults { (kept tables.new).faults ≡ (kept tables.old).faults }
+    ensures names { result ≤ 60 }
+{
+    tables.list(WIDTH, bytes + STANDARD_ROOM);
+    tables.push(NODES, &[0, 0, 0, 0, 0]);
+    let mut names = 0u32;
+    let mut node = ROOT;
+    for byte in STANDARD {
+        if *byte == b' ' {
+            number(tables, node, &mut names);
+            node = ROOT;
+        } else {
+            node = step(tables, node, Symbol::new(Tag::Letter, u64::from(*byte), 0));
+        }
+    }
+    names
+}

@@ -1,0 +1,182 @@
+// Runs of letters and digits, of which each is one identifier or one number.
+ghost use Rattle.std.specs.Prelude.{◌≡◌, ◌≤◌, ◌<◌, ◌+◌, ◌*◌, ◌^◌, length, IsTrue, IfSome, min, false, true};
+ghost use Rattle.gier_symbol.specs.Symbols.{IsSymbol};
+ghost use Rattle.gier_text.specs.Kept.{kept};
+ghost use Rattle.gier_text.specs.Lists.{list_at};
+ghost use Rattle.gier_pass2.specs.Letters.{IsWritable};
+ghost use Rattle.gier_pass2.specs.Names.{HasNodes, KeepsNodes, node_count};
+ghost use Rattle.gier_pass2.specs.Runs.{IsRun, EndsAs, running, goes_on, begins, Values};
+ghost use Rattle.gier_pass2.specs.Waiting.{is_kind};
+
+use crate::names;
+use gier_symbol::{Symbol, Tag};
+use gier_text::{Fault, FaultKind, Tables};
+use std::cmp;
+
+/// The identifier or number that is being read.
+#[derive(Debug, Clone, Copy, PartialEq, Eq)]
+pub(crate) enum Run {
+    Nothing,
+    /// `node` is that of the letters and digits so far; `plain` tells that there are letters only.
+    Name {
+        node: u32,
+        line: u32,
+        plain: bool,
+    },
+    /// The value so far; `position` is how many symbols came before the number.
+    Number {
+        value: u64,
+        line: u32,
+        position: u32,
+    },
+}
+
+/// What a run gave at its end; `plain` tells an identifier of letters only.
+#[derive(Debug, Clone, Copy)]
+pub(crate) struct Assembled {
+    pub(crate) symbol: Symbol,
+    pub(crate) plain: bool,
+}
+
+// The least number that is too large; larger ones are kept as this one.
+const TOO_LARGE: u64 = 1 << 39;
+
+fn is(kind: Tag, s: Symbol) -> bool
+    ensures { result ≡ is_kind kind s }
+{
+    s.tag == kind.number()
+}
+
+/// Whether the run has the symbol too.
+pub(crate) fn goes_on(run: Run, s: Symbol) -> bool
+    ensures { result ≡ goes_on run s }
+{
+    match run {
+        Run::Nothing => false,
+        Run::Name { .. } => is(Tag::Letter, s) || is(Tag::Digit, s),
+        Run::Number { .. } => is(Tag::Digit, s),
+    }
+}
+
+fn with_digit(value: u64, digit: u64) -> u64
+    requires value { value ≤ 2 ^ 39 }
+    requires digit { digit < 2 ^ 40 }
+    ensures { result ≡ min (10 * value + digit) (2 ^ 39) }
+{
+    cmp::min(10 * value + digit, TOO_LARGE)
+}
+
+/// The run with one symbol more.
+pub(crate) fn grown(run: Run, s: Symbol, tables: &mut Tables) -> Run
+    requires nodes { HasNodes (kept tables.old) }
+    requires run { IsRun run (node_count (kept tables.old)) }
+    requires symbol { IsSymbol s }
+    requires goes_on { IsTrue (goes_on run s) }
+    requires room { node_count (kept tables.old) < (list_at (kept tables.old).lists 0).capacity }
+    requires small { (list_at (kept tables.old).lists 0).capacity < 2 ^ 32 }
+    ensures kept { KeepsNodes (kept tables.old) (kept tables.new) }
+    ensures few { node_count (kept tables.new) ≤ node_count (kept tables.old) + 1 }
+    ensures run { IsRun result (node_count (kept tables.new)) }
+    ensures running { running result ≡ running run }
+{
+    match run {
+        Run::Nothing => Run::Nothing,
+        Run::Name { node, line, plain } => Run::Name {
+            node: names::step(tables, node, s),
+            line,
+            plain: plain && is(Tag::Letter, s),
+        },
+        Run::Number {
+            value,
+            line,
+            position,
+        } => Run::Number {
+            value: with_digit(value, s.value),
+            line,
+            position,
+        },
+    }
+}
+
+/// The run that the symbol begins, if any.
+pub(crate) fn begun(s: Symbol, position: u32, tables: &mut Tables) -> Run
+    requires nodes { HasNodes (kept tables.old) }
+    requires symbol { IsSymbol s }
+    requires room { node_count (kept tables.old) < (list_at (kept tables.old).lists 0).capacity }
+    requires small { (list_at (kept tables.old).lists 0).capacity < 2 ^ 32 }
+    ensures kept { KeepsNodes (kept tables.old) (kept tables.new) }
+    ensures few { node_count (kept tables.new) ≤ node_count (kept tables.old) + 1 }
+    ensures run { IsRun result (node_count (kept tables.new)) }
+    ensures running { running result ≡ begins s }
+{
+    if is(Tag::Letter, s) {
+        return Run::Name {
+            node: names::first(tables, s),
+            line: s.line,
+            plain: true,
+        };
+    }
+    if is(Tag::Digit, s) {
+        return Run::Number {
+            value: with_digit(0, s.value),
+            line: s.line,
+            position,
+        };
+    }
+    Run::Nothing
+}
+
+// The value of a number; one that is too large is a fault.
+fn valued(value: u64, line: u32, position: u32, tables: &mut Tables) -> u64
+    requires value { value ≤ 2 ^ 39 }
+    requires room { length (kept tables.old).faults < (kept tables.old).limit + 1 }
+    ensures small { result < 2 ^ 39 }
+    ensures valued { Values value line position (kept tables.old) result (kept tables.new) }
+{
+    if value < TOO_LARGE {
+        return value;
+    }
+    tables.add_fault(Fault {
+        position,
+        line,
+        kind: FaultKind::Number,
+    });
+    0
+}
+
+/// What the run gives at its end. A number that is too large is a fault.
+pub(crate) fn ended(run: Run, tables: &mut Tables, known: &mut u32) -> Option<Assembled>
+    requires nodes { HasNodes (kept tables.old) }
+    requires run { IsRun run (node_count (kept tables.old)) }
+    requires few { known.old + 1 < 2 ^ 32 }
+    requires room { length (kept tables.old).faults + running run ≤ (kept tables.old).limit + 1 }
+    ensures nodes { HasNodes (kept tables.new) }
+    ensures same { node_count (kept tables.new) ≡ node_count (kept tables.old) }
+    ensures capacity { (list_at (kept tables.new).lists 0).capacity ≡ (list_at (kept tables.old).lists 0).capacity }
+    ensures limit { (kept tables.new).limit ≡ (kept tables.old).limit }
+    ensures faults { length (kept tables.new).faults ≤ length (kept tables.old).faults + running run }
+    ensures few { known.new ≤ known.old + running run }
+    ensures ends { EndsAs run result }
+{
+    match run {
+        Run::Nothing => None,
+        Run::Name { node, line, plain } => {
+            let number = names::number(tables, node, known);
+            Some(Assembled {
+                symbol: Symbol::new(Tag::Identifier, number, line),
+                plain,
+            })
+        }
+        Run::Number {
+            value,
+            line,
+            position,
+        } => {
+            let value = valued(value, line, position, tables);
+            Some(Assembled {
+                symbol: Symbol::new(Tag::Number, value, line),
+                plain: false,
+            })
+        }
+    }
+}
