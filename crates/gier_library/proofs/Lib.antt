@@ -1,2 +1,4 @@
 pub mod Takes
 pub mod Numbers
+pub mod Longer
+pub mod Told
