@@ -1,0 +1,4 @@
+pub mod Putting
+pub mod Letters
+pub mod Texts
+pub mod Keeping

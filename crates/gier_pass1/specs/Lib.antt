@@ -1,0 +1,6 @@
+pub mod Bytes
+pub mod Scan
+pub mod Moves
+pub mod Program
+pub mod Puts
+pub mod Scanning
