@@ -1,9 +1,9 @@
 -- The walk along the bases before the current one: more looks than the base's number change nothing, and one step of it.
-use Rattle.std.proofs.Common.{◌≡◌, ◌<◌, ◌≤◌, ◌+◌, ◌-◌, ◌∷◌, ℕ, zero, suc, true, false, nat_lt, nat_le, List, [], length, slice_index, refl, ap, arith, inl, inr, None, sym, ◌∙◌}
+use Rattle.std.proofs.Common.{◌≡◌, ◌<◌, ◌≤◌, ◌+◌, ◌-◌, ℕ, zero, suc, true, false, nat_le, List, length, slice_index, refl, ap, arith, inl, inr, None}
 use Rattle.std.specs.List.{slice_get}
 use Rattle.std.proofs.lemmas.Bool.{cases_lt}
 use Rattle.std.proofs.lemmas.Bool.Decides.{nat_tests}
-use Rattle.gier_frames.specs.Stop.{activations_from, number_from, activation_at}
+use Rattle.gier_frames.specs.Stop.{activations_from, number_from}
 
 pub enough_listed : (n m : ℕ) (words marks : List ℕ) (top base : ℕ) → base < n → base < m → activations_from n words marks top base ≡ activations_from m words marks top base
 enough_listed zero m words marks top base few less = absurd (omega arith)

@@ -1,5 +1,5 @@
 -- What each call makes of the frames, in the order of the order table.
-use Rattle.std.specs.Prelude.{◌+◌, ◌*◌, ◌/◌, ◌%◌, ◌^◌, ℕ, Bool, true, false, max, List, length, slice_index, slice_set}
+use Rattle.std.specs.Prelude.{◌+◌, ◌*◌, ◌/◌, ◌%◌, ℕ, true, max, List, slice_index, slice_set}
 use Rattle.gier_frames.specs.State.{State}
 use Rattle.gier_frames.specs.Numbers.{elements}
 use Rattle.gier_frames.specs.Writes.{zeroed, words_from, poured, with_two, with_header}

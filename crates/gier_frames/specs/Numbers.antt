@@ -1,5 +1,5 @@
 -- The bounds of arrays, which are whole numbers from -2^39 to 2^39 - 1, kept as words in two's complement.
-use Rattle.std.specs.Prelude.{◌+◌, ◌-◌, ◌*◌, ◌&&◌, ◌==◌, ◌||◌, ℕ, zero, suc, Bool, true, nat_lt, nat_le, if◌then◌else◌, List, length, slice_index, Result, Ok, Err}
+use Rattle.std.specs.Prelude.{◌+◌, ◌-◌, ◌*◌, ◌&&◌, ◌==◌, ℕ, zero, suc, Bool, true, nat_lt, nat_le, if◌then◌else◌, List, length, slice_index, Result, Ok, Err}
 use Rattle.gier_word.specs.declared.alarm.Alarm.TheVariants.{Subscript}
 use Rattle.gier_frames.specs.declared.halt.Halt.{Halt}
 use Rattle.gier_frames.specs.declared.halt.Halt.TheVariants.{Alarm, Odd}

@@ -1,6 +1,6 @@
 -- What refuses each call, in the order of the order table. An odd call has no meaning; an alarm ends the run.
-use Rattle.std.specs.Prelude.{◌+◌, ◌*◌, ◌/◌, ◌%◌, ◌==◌, ◌^◌, ◌&&◌, ◌||◌, ℕ, Bool, true, false, not, nat_lt, nat_le, if◌then◌else◌, List, length, slice_index, Option, None, Some}
-use Rattle.gier_word.specs.declared.alarm.Alarm.TheVariants.{Stack, Bounds, Subscript}
+use Rattle.std.specs.Prelude.{◌+◌, ◌*◌, ◌/◌, ◌&&◌, ◌||◌, ℕ, Bool, not, nat_lt, nat_le, if◌then◌else◌, List, length, slice_index, Option, None, Some}
+use Rattle.gier_word.specs.declared.alarm.Alarm.TheVariants.{Stack, Bounds}
 use Rattle.gier_frames.specs.declared.halt.Halt.{Halt}
 use Rattle.gier_frames.specs.declared.halt.Halt.TheVariants.{Alarm, Odd}
 use Rattle.gier_frames.specs.State.{State}

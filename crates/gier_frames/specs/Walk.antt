@@ -1,5 +1,5 @@
 -- The walks through the activations: along those that enclose the current one in the text, and along those before it.
-use Rattle.std.specs.Prelude.{◌+◌, ◌/◌, ◌%◌, ◌==◌, ◌-◌, ℕ, zero, suc, Bool, nat_lt, if◌then◌else◌, List, length, slice_index, Result, Ok, Err}
+use Rattle.std.specs.Prelude.{◌+◌, ◌/◌, ◌%◌, ◌==◌, ℕ, zero, suc, nat_lt, if◌then◌else◌, List, length, slice_index, Result, Ok, Err}
 use Rattle.gier_frames.specs.declared.halt.Halt.{Halt}
 use Rattle.gier_frames.specs.declared.halt.Halt.TheVariants.{Odd}
 use Rattle.gier_frames.specs.State.{State}
