@@ -1,23 +1,47 @@
 -- How the pass goes on standing when symbols are written.
-use Rattle.std.proofs.Common.{◌≡◌, ◌≤◌, ◌+◌, List, [], ◌∷◌, ◌++◌, arith, length, length-append}
-use Rattle.std.specs.Prelude.{All}
+use Rattle.std.proofs.Common.{◌≡◌, ◌≤◌, ◌+◌, ◌∙◌, List, [], ◌∷◌, ◌++◌, arith, length, length-append, sym, refl, Bool, true, false}
+use Rattle.std.specs.Prelude.{All, IsTrue}
+use Rattle.std.proofs.lemmas.List.{append-nil}
 use Rattle.std.proofs.lemmas.List.Elements.{All-append}
 use Rattle.gier_symbol.specs.declared.symbol.Symbol.{Symbol}
 use Rattle.gier_text.specs.Kept.{Kept}
 use Rattle.gier_pass2.specs.declared.pass.Pass2.{Pass2}
-use Rattle.gier_pass2.specs.Letters.{IsWritable}
-use Rattle.gier_pass2.specs.Standing.{HasRun, Stands, Relates, waiting_in}
+use Rattle.gier_pass2.specs.Letters.{IsWritable, is_end, end_in, ends, ends_with}
+use Rattle.gier_pass2.specs.Waiting.{symbols_of}
+use Rattle.gier_pass2.specs.Standing.{HasRun, Stands, Relates, Closes, waiting_in}
 
-pub stands_more : (pass new : Pass2) (t u : Kept) (read written ws : List Symbol) (s : Symbol) → Stands pass t read written → HasRun new u → new.read ≡ pass.read + 1 → length ws + waiting_in new ≤ waiting_in pass + 1 → All IsWritable ws → Stands new u (read ++ s ∷ []) (written ++ ws)
-stands_more pass new t u read written ws s h run more few writable = record {
+pub ends_append : (xs ys : List Symbol) → ends (xs ++ ys) ≡ ends xs + ends ys
+ends_append [] ys = omega arith
+ends_append (x ∷ xs) ys = omega (arith, ends_append xs ys)
+
+pub with_append : (before : Bool) (xs ys : List Symbol) → ends_with before (xs ++ ys) ≡ ends_with (ends_with before xs) ys
+with_append before [] ys = refl
+with_append before (x ∷ xs) ys = with_append (is_end x) xs ys
+
+none_left : (xs : List Symbol) → length xs ≤ 0 → xs ≡ []
+none_left [] h = refl
+none_left (x ∷ xs) h = absurd (omega arith)
+
+last_more : (written ws : List Symbol) → Closes ws → ends_with false (written ++ ws) ≡ true
+last_more written ws closes = with_append false written ws ∙ closes (ends_with false written)
+
+pub stands_more : (pass new : Pass2) (t u : Kept) (read written ws : List Symbol) (s : Symbol) → Stands pass t read written → HasRun new u → new.read ≡ pass.read + 1 → length ws + waiting_in new ≤ waiting_in pass + 1 → All IsWritable ws → ends (symbols_of new.waiting) ≡ 0 → ends ws ≡ end_in (is_end s) → (IsTrue (is_end s) → Closes ws × (waiting_in new ≡ 0)) → Stands new u (read ++ s ∷ []) (written ++ ws)
+stands_more pass new t u read written ws s h run more few writable inner same last = record {
   run = run;
   taken = omega (arith, h.taken, more, length-append read (s ∷ []));
   few = omega (arith, h.few, few, length-append read (s ∷ []), length-append written ws);
   letters = All-append IsWritable written ws h.letters writable;
+  inner = inner;
+  same_ends = omega (arith, h.same_ends, same, ends_append written ws, ends_append read (s ∷ []));
+  last = λ ended. let closed = last (sym (with_append false read (s ∷ [])) ∙ ended) in (last_more written ws closed.0, closed.1);
 }
 
-pub relates_end : (pass new : Pass2) (t u : Kept) (read written ws : List Symbol) → Stands pass t read written → length ws ≤ waiting_in pass → All IsWritable ws → Relates new u read (written ++ ws)
-relates_end pass new t u read written ws h few writable = record {
+pub relates_end : (pass new : Pass2) (t u : Kept) (read written ws : List Symbol) → Stands pass t read written → length ws ≤ waiting_in pass → All IsWritable ws → ends ws ≡ 0 → Relates new u read (written ++ ws)
+relates_end pass new t u read written ws h few writable none = record {
   few = omega (arith, h.few, few, length-append written ws);
   letters = All-append IsWritable written ws h.letters writable;
+  ended = λ ended. record {
+    once = omega (arith, h.same_ends, ended.once, none, ends_append written ws);
+    last = let closed = h.last ended.last in let empty : ws ≡ [] = none_left ws (omega (arith, closed.1, few)) in rw (empty, append-nil written) closed.0;
+  };
 }

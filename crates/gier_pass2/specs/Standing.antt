@@ -1,11 +1,11 @@
 -- What the pass keeps while it takes symbols, what holds at its end, and which lists it is meant for.
-use Rattle.std.specs.Prelude.{◌≡◌, ◌≤◌, ◌+◌, ℕ, List, length, All, IsTrue}
+use Rattle.std.specs.Prelude.{Bool, true, false, ◌≡◌, ◌≤◌, ◌+◌, ℕ, List, length, All, IsTrue}
 use Rattle.gier_symbol.specs.declared.symbol.Symbol.{Symbol}
 use Rattle.gier_symbol.specs.Texts.{stands_in}
 use Rattle.gier_text.specs.Kept.{Kept}
 use Rattle.gier_text.specs.Lists.{list_at}
 use Rattle.gier_pass2.specs.declared.pass.Pass2.{Pass2}
-use Rattle.gier_pass2.specs.Letters.{IsWritable}
+use Rattle.gier_pass2.specs.Letters.{IsWritable, IsEnded, ends, ends_with}
 use Rattle.gier_pass2.specs.Names.{HasNodes, node_count}
 use Rattle.gier_pass2.specs.Runs.{IsRun, running}
 use Rattle.gier_pass2.specs.Waiting.{symbols_of, IsWaiting}
@@ -34,17 +34,26 @@ pub record HasRun (pass : Pass2) (t : Kept) : Type 0 where
   pub room : length t.faults + running pass.run ≤ pass.read
   pub names : pass.known + running pass.run ≤ 60 + pass.read
 
+-- these symbols end a text, whatever stands before them
+abbrev pub Closes : List Symbol → Type 0
+Closes list = (before : Bool) → ends_with before list ≡ true
+
 -- so many symbols were taken; no more are written or wait, and those that are written are letters of text 2
 pub record Stands (pass : Pass2) (t : Kept) (read written : List Symbol) : Type 0 where
   pub run : HasRun pass t
   pub taken : pass.read ≡ length read
   pub few : length written + waiting_in pass ≤ length read
   pub letters : All IsWritable written
+  pub inner : ends (symbols_of pass.waiting) ≡ 0
+  pub same_ends : ends written ≡ ends read
+  pub last : ends_with false read ≡ true → (ends_with false written ≡ true) × (waiting_in pass ≡ 0)
 
--- no more symbols are written than were taken, and they are letters of text 2; there are no more faults
+-- no more symbols are written than were taken, and they are letters of text 2; where the end is last and
+-- nowhere else in what was taken, so it is in what was written
 pub record Relates (pass : Pass2) (t : Kept) (read written : List Symbol) : Type 0 where
   pub few : length written ≤ length read
   pub letters : All IsWritable written
+  pub ended : IsEnded read → IsEnded written
 
 -- letters of text 1, at most one for each byte and one for the end
 pub record IsTextOne (bytes : ℕ) (list : List Symbol) : Type 0 where

@@ -3,11 +3,11 @@ ghost use Rattle.std.specs.Prelude.{◌≡◌, ◌≤◌, ◌<◌, ◌+◌, ◌*
 ghost use Rattle.gier_symbol.specs.Symbols.{IsSymbol};
 ghost use Rattle.gier_symbol.specs.Texts.{stands_in};
 ghost use Rattle.gier_text.specs.Kept.{kept, fresh};
-ghost use Rattle.gier_pass2.specs.Letters.{IsWritable};
+ghost use Rattle.gier_pass2.specs.Letters.{IsWritable, ends, end_in, is_end};
 ghost use Rattle.gier_pass2.specs.Given.{listed};
 ghost use Rattle.gier_pass2.specs.Waiting.{symbols_of};
 ghost use Rattle.gier_pass2.specs.Runs.{running};
-ghost use Rattle.gier_pass2.specs.Standing.{IsReady, HasRun, Stands, Relates, IsTextOne, waiting_in};
+ghost use Rattle.gier_pass2.specs.Standing.{IsReady, HasRun, Stands, Relates, IsTextOne, Closes, waiting_in};
 
 use crate::commas::{Waiting, feed, give};
 use crate::few::Few;
@@ -54,13 +54,15 @@ impl Pass2 {
 
     // Ends the run, and gives what is known then to be no part of a comma.
     fn finish(&mut self, tables: &mut Tables) -> Few
-        requires { HasRun self.old (kept tables.old) }
+        requires run { HasRun self.old (kept tables.old) }
+        requires inner { ends (symbols_of self.old.waiting) ≡ 0 }
         ensures ready { IsReady self.new (kept tables.new) }
         ensures read { self.new.read ≡ self.old.read }
         ensures bytes { self.new.bytes ≡ self.old.bytes }
         ensures run { running self.new.run ≡ 0 }
         ensures few { length (listed result) + length (symbols_of self.new.waiting) ≤ waiting_in self.old }
         ensures writable { All IsWritable (listed result) }
+        ensures no_end { ends (listed result) + ends (symbols_of self.new.waiting) ≡ 0 }
     {
         let mut ready = Few::none();
         if let Some(word) = ended(self.run, tables, &mut self.known) {
@@ -73,6 +75,7 @@ impl Pass2 {
     // Takes a symbol, and gives what is to be written then.
     fn step(&mut self, s: Symbol, tables: &mut Tables) -> Few
         requires stands { HasRun self.old (kept tables.old) }
+        requires inner { ends (symbols_of self.old.waiting) ≡ 0 }
         requires more { self.old.read ≤ self.old.bytes }
         requires symbol { IsSymbol s }
         requires letter { IsTrue (stands_in 1 s.tag) }
@@ -81,6 +84,9 @@ impl Pass2 {
         ensures bytes { self.new.bytes ≡ self.old.bytes }
         ensures few { length (listed result) + waiting_in self.new ≤ waiting_in self.old + 1 }
         ensures writable { All IsWritable (listed result) }
+        ensures inner { ends (symbols_of self.new.waiting) ≡ 0 }
+        ensures ends { ends (listed result) ≡ end_in (is_end s) }
+        ensures last { IsTrue (is_end s) → Closes (listed result) × (waiting_in self.new ≡ 0) }
     {
         if goes_on(self.run, s) {
             self.run = grown(self.run, s, tables);
@@ -98,8 +104,10 @@ impl Pass2 {
 
     // Gives all that is left.
     fn rest(&mut self, tables: &mut Tables) -> Few
-        requires { HasRun self.old (kept tables.old) }
+        requires run { HasRun self.old (kept tables.old) }
+        requires inner { ends (symbols_of self.old.waiting) ≡ 0 }
         ensures few { length (listed result) ≤ waiting_in self.old }
+        ensures no_end { ends (listed result) ≡ 0 }
         ensures writable { All IsWritable (listed result) }
         ensures read { self.new.read ≡ self.old.read }
         ensures bytes { self.new.bytes ≡ self.old.bytes }

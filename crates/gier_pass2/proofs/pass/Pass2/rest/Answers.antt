@@ -1,0 +1,27 @@
+use Rattle.std.proofs.Common.{arith, ◌≤◌, length}
+use Rattle.gier_pass2.specs.Given.{listed}
+use Rattle.gier_pass2.specs.declared.commas.Waiting.{Waiting}
+use Rattle.gier_pass2.specs.declared.commas.Waiting.TheVariants.{Nothing as NothingWaits, Shut, Name as NameWaits, Colon}
+use Rattle.gier_pass2.specs.declared.runs.Run.{Run}
+use Rattle.gier_pass2.specs.declared.runs.Run.TheVariants.{Nothing, Name, Number}
+use Rattle.gier_pass2.specs.Runs.{running}
+use Rattle.gier_pass2.specs.Waiting.{symbols_of}
+use Rattle.gier_pass2.proofs.GoingOn.{ends_append}
+use Rattle.gier_pass2.proofs.pass.Pass2.rest.Goals as goal
+
+three_wait : (waiting : Waiting) → length (symbols_of waiting) ≤ 3
+three_wait NothingWaits = omega arith
+three_wait (Shut shut) = omega arith
+three_wait (NameWaits shut name) = omega arith
+three_wait (Colon shut name colon) = omega arith
+
+one_run : (run : Run) → running run ≤ 1
+one_run Nothing = omega arith
+one_run (Name node line plain) = omega arith
+one_run (Number value line position) = omega arith
+
+pub give-requires-clause-room : goal.give-requires-clause-room
+give-requires-clause-room c = omega (arith, c.finish-ready.ensures.few, three_wait c.args.self.now.waiting, one_run c.args.self.now.run)
+
+pub returns-clause-no_end : goal.returns-clause-no_end
+returns-clause-no_end c = rw c.give.ensures (omega (arith, ends_append (listed c.finish-ready.result) (symbols_of c.finish-ready.new.self.waiting), c.finish-ready.ensures.no_end))
