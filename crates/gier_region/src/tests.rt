@@ -1,4 +1,4 @@
-// That a region and a table can be opened and used, with the worked numbers of the specification.
+// That a region and a table can be opened and used, with numbers worked out by hand.
 
 ghost use Rattle.std.specs.Prelude.{Some, slice_index};
 
