@@ -84,11 +84,11 @@ pub fn drive<P: Pass, T: Text>(
         × P.relates pass.new tables.new read written) }
     ensures done { OnOk result (IsReadWhole (T.view input.old store.old) (T.view input.new store.new)) }
     ensures logged { OnOk result (LogsBoth (T.view input.old store.old) (T.view input.new store.new) (T.view output.old store.old) (T.view output.new store.new) (T.journal store.old) (T.journal store.new)) }
-    ensures input_place { OnOk result (IsPlacedAs T.first_track T.end_track input.old input.new) }
-    ensures output_place { OnOk result (IsPlacedAs T.first_track T.end_track output.old output.new) }
-    ensures room { OnOk result (T.room store.new ≡ T.room store.old) }
-    ensures tracks { OnOk result (KeepsTracks (T.first_track output.old) (T.end_track output.old) (T.tracks store.old) (T.tracks store.new)) }
-    ensures kept { OnOk result (KeepsOthers T.view T.first_track T.end_track output.old store.old store.new) }
+    ensures input_place { IsPlacedAs T.first_track T.end_track input.old input.new }
+    ensures output_place { IsPlacedAs T.first_track T.end_track output.old output.new }
+    ensures room { T.room store.new ≡ T.room store.old }
+    ensures tracks { KeepsTracks (T.first_track output.old) (T.end_track output.old) (T.tracks store.old) (T.tracks store.new) }
+    ensures kept { KeepsOthers T.view T.first_track T.end_track output.old store.old store.new }
     ensures later { T.faults store.old ≤ T.faults store.new }
     ensures failed { IsErrOf result Drum → HasRisen (T.faults store.old) (T.faults store.new) }
     ensures memory { IsErrOf result Memory → IsTrue T.grows }
