@@ -20,7 +20,7 @@ pub(crate) fn write_all<T: Text>(
     requires writing { (T.view out.old store.old).rewound ≡ false }
     requires placed { T.end_track out.old ≤ T.room store.old }
     ensures written { OnOk result (WritesAll (T.view out.old store.old) symbols.now (T.view out.new store.new)) }
-    ensures logged { OnOk result (Logged (T.view out.old store.old) (T.view out.new store.new) (T.journal store.old) (T.journal store.new)) }
+    ensures logged { Logged (T.view out.old store.old) (T.view out.new store.new) (T.journal store.old) (T.journal store.new) }
     ensures place { IsPlacedAs T.first_track T.end_track out.old out.new }
     ensures room { T.room store.new ≡ T.room store.old }
     ensures tracks { KeepsTracks (T.first_track out.old) (T.end_track out.old) (T.tracks store.old) (T.tracks store.new) }

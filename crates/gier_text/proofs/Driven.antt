@@ -142,6 +142,14 @@ logs_both_more input input_mid input_new output output_mid output_new before mid
   journal = logs_all_more before mid after h.entries (r.entries ++ w.entries) h.journal (logs_all_more mid between after r.entries w.entries r.journal w.journal);
 }
 
+-- nothing is done to a text
+pub logged_none : (v : View) (journal : Option (List Entry)) → Logged v v journal journal
+logged_none v journal = record { entries = []; log = sym (append-nil v.log); journal = logs_start journal }
+
+-- a read of the input alone
+pub logs_both_read : (input input_mid input_new output output_mid output_new : View) (before mid after : Option (List Entry)) → LogsBoth input input_mid output output_mid before mid → Logged input_mid input_new mid after → output_new ≡ output_mid → LogsBoth input input_new output output_new before after
+logs_both_read input input_mid input_new output output_mid output_new before mid after h r same = rw same (logs_both_more input input_mid input_new output output_mid output_mid before mid after after h r (logged_none output_mid after))
+
 pub apart_as : (a b c d a2 b2 c2 d2 : ℕ) → Apart a b c d → a2 ≡ a → b2 ≡ b → c2 ≡ c → d2 ≡ d → Apart a2 b2 c2 d2
 apart_as a b c d a2 b2 c2 d2 (inl h) p q r s = inl (omega arith)
 apart_as a b c d a2 b2 c2 d2 (inr h) p q r s = inr (omega arith)

@@ -83,7 +83,7 @@ pub fn drive<P: Pass, T: Text>(
         × WritesAll (T.view output.old store.old) written (T.view output.new store.new)
         × P.relates pass.new tables.new read written) }
     ensures done { OnOk result (IsReadWhole (T.view input.old store.old) (T.view input.new store.new)) }
-    ensures logged { OnOk result (LogsBoth (T.view input.old store.old) (T.view input.new store.new) (T.view output.old store.old) (T.view output.new store.new) (T.journal store.old) (T.journal store.new)) }
+    ensures logged { LogsBoth (T.view input.old store.old) (T.view input.new store.new) (T.view output.old store.old) (T.view output.new store.new) (T.journal store.old) (T.journal store.new) }
     ensures input_place { IsPlacedAs T.first_track T.end_track input.old input.new }
     ensures output_place { IsPlacedAs T.first_track T.end_track output.old output.new }
     ensures room { T.room store.new ≡ T.room store.old }

@@ -63,7 +63,7 @@ pub trait Pass {
         requires placed { T.end_track out.old ≤ T.room store.old }
         ensures ok { OnOk result ((ws : List Symbol) × WritesAll (T.view out.old store.old) ws (T.view out.new store.new)
             × ((read written : List Symbol) → stands self.old tables.old read written → stands self.new tables.new (read ++ Self.In.symbol_of s ∷ []) (written ++ ws))) }
-        ensures logged { OnOk result (Logged (T.view out.old store.old) (T.view out.new store.new) (T.journal store.old) (T.journal store.new)) }
+        ensures logged { Logged (T.view out.old store.old) (T.view out.new store.new) (T.journal store.old) (T.journal store.new) }
         ensures place { IsPlacedAs T.first_track T.end_track out.old out.new }
         ensures room { T.room store.new ≡ T.room store.old }
         ensures tracks { KeepsTracks (T.first_track out.old) (T.end_track out.old) (T.tracks store.old) (T.tracks store.new) }
@@ -90,7 +90,7 @@ pub trait Pass {
         requires placed { T.end_track out.old ≤ T.room store.old }
         ensures ok { OnOk result ((ws : List Symbol) × WritesAll (T.view out.old store.old) ws (T.view out.new store.new)
             × ((read written : List Symbol) → stands self.old tables.old read written → relates self.new tables.new read (written ++ ws))) }
-        ensures logged { OnOk result (Logged (T.view out.old store.old) (T.view out.new store.new) (T.journal store.old) (T.journal store.new)) }
+        ensures logged { Logged (T.view out.old store.old) (T.view out.new store.new) (T.journal store.old) (T.journal store.new) }
         ensures place { IsPlacedAs T.first_track T.end_track out.old out.new }
         ensures room { T.room store.new ≡ T.room store.old }
         ensures tracks { KeepsTracks (T.first_track out.old) (T.end_track out.old) (T.tracks store.old) (T.tracks store.new) }

@@ -3,7 +3,7 @@ use Rattle.gier_symbol.specs.declared.symbol.Symbol.{Symbol}
 use Rattle.gier_text.specs.Log.{Logged}
 use Rattle.gier_text.specs.Passes.{Expected}
 use Rattle.gier_text.specs.View.{WritesAll, View}
-use Rattle.gier_text.proofs.Driven.{reads_none, writes_none, reads_more, writes_more, reads_end, logs_both_none, logs_both_more, apart_as, apart_back, tracks_more, tracks_none, next_told, element_has, less_as, take_spoilt}
+use Rattle.gier_text.proofs.Driven.{reads_none, writes_none, reads_more, writes_more, reads_end, logs_both_none, logs_both_more, logs_both_read, apart_as, apart_back, tracks_more, tracks_none, next_told, element_has, less_as, take_spoilt}
 use Rattle.gier_text.proofs.driver.drive.Goals as goal
 
 pub loop-s-init : goal.loop-s-init
@@ -45,7 +45,7 @@ loop-s-preserved g c =
     let wrote = c.in-Ok.ensures.ok in
     let reads = reads_more (view c.args.input.now c.args.store.now) now.read (c.in-Ok-Some.s ∷ []) (view c.loop-s.input c.loop-s.store) (view c.read_next.new.self c.read_next.new.store) now.reads given.read in
     let writes = writes_more (view c.args.output.now c.args.store.now) now.written wrote.0 (view c.loop-s.output c.loop-s.store) (view c.take.new.out c.take.new.store) now.writes (subst (λ (v : View). WritesAll v wrote.0 (view c.take.new.out c.take.new.store)) out_kept wrote.1) in
-    let took = subst (λ (v : View). Logged v (view c.take.new.out c.take.new.store) (g.T.Text.journal c.read_next.new.store) (g.T.Text.journal c.take.new.store)) out_kept c.in-Ok.ensures.logged in
+    let took = subst (λ (v : View). Logged v (view c.take.new.out c.take.new.store) (g.T.Text.journal c.read_next.new.store) (g.T.Text.journal c.take.new.store)) out_kept c.take.ensures.logged in
     record {
       read = now.read ++ c.in-Ok-Some.s ∷ [];
       written = now.written ++ wrote.0;
@@ -66,7 +66,7 @@ loop-s-preserved g c =
       later = omega (arith, now.later, c.read_next.ensures.later, c.take.ensures.later);
       still_most = c.take.ensures.still_most ∙ now.still_most;
       still_expects = λ list h. c.take.ensures.still_expects list (now.still_expects list h);
-      logged = rw input_kept (logs_both_more (view c.args.input.now c.args.store.now) (view c.loop-s.input c.loop-s.store) (view c.read_next.new.self c.read_next.new.store) (view c.args.output.now c.args.store.now) (view c.loop-s.output c.loop-s.store) (view c.take.new.out c.take.new.store) (g.T.Text.journal c.args.store.now) (g.T.Text.journal c.loop-s.store) (g.T.Text.journal c.read_next.new.store) (g.T.Text.journal c.take.new.store) now.logged c.in-Ok-Some.ensures.logged took);
+      logged = rw input_kept (logs_both_more (view c.args.input.now c.args.store.now) (view c.loop-s.input c.loop-s.store) (view c.read_next.new.self c.read_next.new.store) (view c.args.output.now c.args.store.now) (view c.loop-s.output c.loop-s.store) (view c.take.new.out c.take.new.store) (g.T.Text.journal c.args.store.now) (g.T.Text.journal c.loop-s.store) (g.T.Text.journal c.read_next.new.store) (g.T.Text.journal c.take.new.store) now.logged c.read_next.ensures.logged took);
     }
 
 pub returns-in-None-clause-spoilt : goal.returns-in-None-clause-spoilt
@@ -116,5 +116,37 @@ returns-in-Ok-end-clause-logged g c =
     let in_place = c.read_next.ensures.place in
     let input_apart = apart_as _ _ _ _ _ _ _ _ (apart_back _ _ _ _ now.are_apart) refl refl in_place.begins in_place.ends in
     let input_kept = c.end.ensures.kept c.read_next.new.self input_apart in
-    let ended = subst (λ (v : View). Logged v (view c.end.new.out c.end.new.store) (g.T.Text.journal c.read_next.new.store) (g.T.Text.journal c.end.new.store)) out_kept c.in-Ok-end.ensures.logged in
-    rw input_kept (logs_both_more (view c.args.input.now c.args.store.now) (view c.loop-s.input c.loop-s.store) (view c.read_next.new.self c.read_next.new.store) (view c.args.output.now c.args.store.now) (view c.loop-s.output c.loop-s.store) (view c.end.new.out c.end.new.store) (g.T.Text.journal c.args.store.now) (g.T.Text.journal c.loop-s.store) (g.T.Text.journal c.read_next.new.store) (g.T.Text.journal c.end.new.store) now.logged c.in-Ok-None.ensures.logged ended)
+    let ended = subst (λ (v : View). Logged v (view c.end.new.out c.end.new.store) (g.T.Text.journal c.read_next.new.store) (g.T.Text.journal c.end.new.store)) out_kept c.end.ensures.logged in
+    rw input_kept (logs_both_more (view c.args.input.now c.args.store.now) (view c.loop-s.input c.loop-s.store) (view c.read_next.new.self c.read_next.new.store) (view c.args.output.now c.args.store.now) (view c.loop-s.output c.loop-s.store) (view c.end.new.out c.end.new.store) (g.T.Text.journal c.args.store.now) (g.T.Text.journal c.loop-s.store) (g.T.Text.journal c.read_next.new.store) (g.T.Text.journal c.end.new.store) now.logged c.read_next.ensures.logged ended)
+
+pub returns-in-Err-clause-logged : goal.returns-in-Err-clause-logged
+returns-in-Err-clause-logged g c =
+    let view = g.T.Text.view in
+    logs_both_read (view c.args.input.now c.args.store.now) (view c.loop-s.input c.loop-s.store) (view c.read_next.new.self c.read_next.new.store) (view c.args.output.now c.args.store.now) (view c.loop-s.output c.loop-s.store) (view c.loop-s.output c.read_next.new.store) (g.T.Text.journal c.args.store.now) (g.T.Text.journal c.loop-s.store) (g.T.Text.journal c.read_next.new.store) c.loop-s.invariant.logged c.read_next.ensures.logged (c.read_next.ensures.kept c.loop-s.output)
+
+pub returns-in-None-clause-logged : goal.returns-in-None-clause-logged
+returns-in-None-clause-logged g c =
+    let view = g.T.Text.view in
+    logs_both_read (view c.args.input.now c.args.store.now) (view c.loop-s.input c.loop-s.store) (view c.read_next.new.self c.read_next.new.store) (view c.args.output.now c.args.store.now) (view c.loop-s.output c.loop-s.store) (view c.loop-s.output c.read_next.new.store) (g.T.Text.journal c.args.store.now) (g.T.Text.journal c.loop-s.store) (g.T.Text.journal c.read_next.new.store) c.loop-s.invariant.logged c.read_next.ensures.logged (c.read_next.ensures.kept c.loop-s.output)
+
+pub returns-in-Err-take-clause-logged : goal.returns-in-Err-take-clause-logged
+returns-in-Err-take-clause-logged g c =
+    let now = c.loop-s.invariant in
+    let view = g.T.Text.view in
+    let out_kept = c.read_next.ensures.kept c.loop-s.output in
+    let in_place = c.read_next.ensures.place in
+    let input_apart = apart_as _ _ _ _ _ _ _ _ (apart_back _ _ _ _ now.are_apart) refl refl in_place.begins in_place.ends in
+    let input_kept = c.take.ensures.kept c.read_next.new.self input_apart in
+    let stopped = subst (λ (v : View). Logged v (view c.take.new.out c.take.new.store) (g.T.Text.journal c.read_next.new.store) (g.T.Text.journal c.take.new.store)) out_kept c.take.ensures.logged in
+    rw input_kept (logs_both_more (view c.args.input.now c.args.store.now) (view c.loop-s.input c.loop-s.store) (view c.read_next.new.self c.read_next.new.store) (view c.args.output.now c.args.store.now) (view c.loop-s.output c.loop-s.store) (view c.take.new.out c.take.new.store) (g.T.Text.journal c.args.store.now) (g.T.Text.journal c.loop-s.store) (g.T.Text.journal c.read_next.new.store) (g.T.Text.journal c.take.new.store) now.logged c.read_next.ensures.logged stopped)
+
+pub returns-in-Err-end-clause-logged : goal.returns-in-Err-end-clause-logged
+returns-in-Err-end-clause-logged g c =
+    let now = c.loop-s.invariant in
+    let view = g.T.Text.view in
+    let out_kept = c.read_next.ensures.kept c.loop-s.output in
+    let in_place = c.read_next.ensures.place in
+    let input_apart = apart_as _ _ _ _ _ _ _ _ (apart_back _ _ _ _ now.are_apart) refl refl in_place.begins in_place.ends in
+    let input_kept = c.end.ensures.kept c.read_next.new.self input_apart in
+    let stopped = subst (λ (v : View). Logged v (view c.end.new.out c.end.new.store) (g.T.Text.journal c.read_next.new.store) (g.T.Text.journal c.end.new.store)) out_kept c.end.ensures.logged in
+    rw input_kept (logs_both_more (view c.args.input.now c.args.store.now) (view c.loop-s.input c.loop-s.store) (view c.read_next.new.self c.read_next.new.store) (view c.args.output.now c.args.store.now) (view c.loop-s.output c.loop-s.store) (view c.end.new.out c.end.new.store) (g.T.Text.journal c.args.store.now) (g.T.Text.journal c.loop-s.store) (g.T.Text.journal c.read_next.new.store) (g.T.Text.journal c.end.new.store) now.logged c.read_next.ensures.logged stopped)
