@@ -1,6 +1,7 @@
 -- What a run of a pass keeps from turn to turn.
-use Rattle.std.proofs.Common.{◌≡◌, ◌≤◌, ◌<◌, ◌⊎◌, ℕ, List, [], ◌∷◌, ◌++◌, Option, None, Some, true, false, refl, sym, ap, ◌∙◌, arith, inl, inr, length, length-append, append_assoc, subst, get_or, All, Result, Ok, Err, OnOk}
+use Rattle.std.proofs.Common.{◌≡◌, ◌≤◌, ◌<◌, ◌+◌, ◌*◌, ◌-◌, ◌^◌, min, ◌⊎◌, ℕ, List, [], ◌∷◌, ◌++◌, Option, None, Some, true, false, refl, sym, ap, ◌∙◌, arith, inl, inr, length, length-append, append_assoc, subst, get_or, All, Result, Ok, Err, OnOk}
 use Rattle.std.proofs.lemmas.List.{append-nil, get_or_at}
+use Rattle.gier_symbol.specs.Symbols.{code_of}
 use Rattle.gier_drum.specs.declared.drum.Entry.{Entry}
 use Rattle.gier_word.specs.Cause.{HasRisen}
 use Rattle.gier_symbol.specs.declared.symbol.Symbol.{Symbol}
@@ -9,15 +10,17 @@ use Rattle.gier_word.specs.declared.refusal.Odd.{Odd}
 use Rattle.gier_text.specs.declared.pass.PassStop.{PassStop}
 use Rattle.gier_text.specs.declared.pass.PassStop.TheVariants.{Drum, Memory, Full, Spoilt}
 use Rattle.gier_text.specs.Passes.{Mixed, HasLess, SpoiltIf}
-use Rattle.gier_text.specs.Driven.{LogsBoth, at_symbol}
+use Rattle.gier_text.specs.Driven.{LogsBoth, at_symbol, place_of, NamesLast, SpoiltAs}
 use Rattle.gier_text.specs.View.{View, WritesAll, ReadsAll, Appends, LeftFrom, IsLeft, IsLeftIn, Apart, IsPlacedAs, KeepsTracks, KeepsOthers}
 
-pub record Driven {T S : Type 0} (view : T → S → View) (first end : T → ℕ) (room : S → ℕ) (tracks : S → Option (List (List ℕ))) (journal : S → Option (List Entry)) (faults : S → ℕ) (stands : List Symbol → List Symbol → Type 0) (expected expects : List Symbol → Type 0) (most_before most_now : ℕ) (input_old output_old : T) (store_old : S) (input output : T) (store : S) : Type 0 where
+pub record Driven {T S : Type 0} (view : T → S → View) (first end : T → ℕ) (room : S → ℕ) (tracks : S → Option (List (List ℕ))) (journal : S → Option (List Entry)) (faults : S → ℕ) (stands : List Symbol → List Symbol → Type 0) (expected expects : List Symbol → Type 0) (most_before most_now : ℕ) (input_old output_old : T) (store_old : S) (input output : T) (store : S) (place : ℕ) (last : Odd) : Type 0 where
   pub read : List Symbol
   pub written : List Symbol
   pub reads : ReadsAll (view input_old store_old) read (view input store)
   pub writes : WritesAll (view output_old store_old) written (view output store)
   pub so_far : stands read written
+  pub place_is : place ≡ place_of (length read)
+  pub named : NamesLast read last
   pub counted : (view output store).count ≡ length written
   pub reading : (view input store).rewound ≡ true
   pub writing : (view output store).rewound ≡ false
@@ -204,3 +207,20 @@ take_spoilt Drum odd less sound full = tt
 take_spoilt Memory odd less sound full = tt
 take_spoilt Full odd less sound full = full refl
 take_spoilt (Spoilt other) odd less sound full = absurd sound
+
+pub take_named : (stop : PassStop) (odd : Odd) (P : Odd → Type 0) → SpoiltIf {T = ℕ} (Err stop) ⊥ → P odd → SpoiltAs {T = ℕ} (Err (at_symbol odd stop)) P
+take_named Drum odd P sound h = tt
+take_named Memory odd P sound h = tt
+take_named Full odd P sound h = h
+take_named (Spoilt other) odd P sound h = absurd sound
+
+-- a symbol behind others is named by its place and its first word
+pub names_more : (read : List Symbol) (s : Symbol) (odd : Odd) → odd.place ≡ place_of (length read) → odd.word ≡ s.tag * 2 ^ 24 + s.line → NamesLast (read ++ s ∷ []) odd
+names_more [] s odd place word = ([], s, refl, place, word)
+names_more (x ∷ xs) s odd place word = (x ∷ xs, s, refl, place, word)
+
+pub place_more : (read : List Symbol) (s : Symbol) (place next : ℕ) → place ≡ place_of (length read) → next ≡ min (place + 1) (2 ^ 64 - 1) → next ≡ place_of (length (read ++ s ∷ []))
+place_more read s place next is more = omega (arith, is, more, length-append read (s ∷ []))
+
+pub first_word : (words : List ℕ) (s : Symbol) → words ≡ code_of s → get_or words 0 0 ≡ s.tag * 2 ^ 24 + s.line
+first_word words s is = rw is refl
