@@ -13,7 +13,7 @@ use Rattle.gier_text.specs.Passes.{Mixed, HasLess, SpoiltIf}
 use Rattle.gier_text.specs.Driven.{LogsBoth, at_symbol, place_of, NamesLast, SpoiltAs}
 use Rattle.gier_text.specs.View.{View, WritesAll, ReadsAll, Appends, LeftFrom, IsLeft, IsLeftIn, Apart, IsPlacedAs, KeepsTracks, KeepsOthers}
 
-pub record Driven {T S : Type 0} (view : T → S → View) (first end : T → ℕ) (room : S → ℕ) (tracks : S → Option (List (List ℕ))) (journal : S → Option (List Entry)) (faults : S → ℕ) (stands : List Symbol → List Symbol → Type 0) (expected expects : List Symbol → Type 0) (most_before most_now : ℕ) (input_old output_old : T) (store_old : S) (input output : T) (store : S) (place : ℕ) (last : Odd) : Type 0 where
+pub record Driven {T S : Type 0} (view : T → S → View) (first end : T → ℕ) (room : S → ℕ) (tracks : S → Option (List (List ℕ))) (journal : S → Option (List Entry)) (faults : S → ℕ) (stands : List Symbol → List Symbol → Type 0) (expected expects : List Symbol → Type 0) (most_before most_now limit_before limit_now : ℕ) (input_old output_old : T) (store_old : S) (input output : T) (store : S) (place : ℕ) (last : Odd) : Type 0 where
   pub read : List Symbol
   pub written : List Symbol
   pub reads : ReadsAll (view input_old store_old) read (view input store)
@@ -34,6 +34,7 @@ pub record Driven {T S : Type 0} (view : T → S → View) (first end : T → �
   pub same_others : KeepsOthers view first end output_old store_old store
   pub later : faults store_old ≤ faults store
   pub still_most : most_now ≡ most_before
+  pub same_limit : limit_now ≡ limit_before
   pub still_expects : (list : List Symbol) → expected list → expects list
   pub logged : LogsBoth (view input_old store_old) (view input store) (view output_old store_old) (view output store) (journal store_old) (journal store)
 

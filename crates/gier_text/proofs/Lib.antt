@@ -5,3 +5,5 @@ pub mod Writing
 pub mod Logs
 pub mod Driven
 pub mod Laid
+pub mod Waiting
+pub mod Wrote

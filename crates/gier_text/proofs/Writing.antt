@@ -78,7 +78,7 @@ decoded_parts tag line value known low small =
 is_below : (n m : ℕ) → n < m → nat_lt n m ≡ true
 is_below n m lt = grind (arith, nat_tests)
 
-decoded_code : (s : Symbol) → IsSymbol s → decoded (s.tag * 16777216 + s.line) s.value ≡ Some s
+pub decoded_code : (s : Symbol) → IsSymbol s → decoded (s.tag * 16777216 + s.line) s.value ≡ Some s
 decoded_code s small =
     let fits : nat_lt s.value 1099511627776 ≡ true = is_below s.value 1099511627776 small.value in
     decoded_parts s.tag s.line s.value small.tag small.line fits

@@ -7,3 +7,6 @@ pub mod Passes
 pub mod Driven
 pub mod Lists
 pub mod Kept
+pub mod Outbox
+pub mod Growth
+pub mod Faults

@@ -86,6 +86,13 @@ impl<D: Drum> DrumText<D> {
             of: PhantomData,
         }
     }
+
+    /// How many symbols it holds.
+    pub fn len(&self) -> u32
+        ensures { result ≡ self.now.count }
+    {
+        self.count
+    }
 }
 
 impl<D: Drum> Text for DrumText<D> {

@@ -30,6 +30,7 @@ loop-s-init g c =
       same_others = λ other apart. refl;
       later = omega arith;
       still_most = refl;
+      same_limit = refl;
       still_expects = λ list h. h;
       logged = logs_both_none (view c.args.input.now c.args.store.now) (view c.args.output.now c.args.store.now) (g.T.Text.journal c.args.store.now);
     }
@@ -69,6 +70,7 @@ loop-s-preserved g c =
       same_others = λ other apart. c.take.ensures.kept other (apart_as _ _ _ _ _ _ _ _ apart now.output_place.begins now.output_place.ends refl refl) ∙ c.read_next.ensures.kept other ∙ now.same_others other apart;
       later = omega (arith, now.later, c.read_next.ensures.later, c.take.ensures.later);
       still_most = c.take.ensures.still_most ∙ now.still_most;
+      same_limit = c.take.ensures.limit ∙ now.same_limit;
       still_expects = λ list h. c.take.ensures.still_expects list (now.still_expects list h);
       logged = rw input_kept (logs_both_more (view c.args.input.now c.args.store.now) (view c.loop-s.input c.loop-s.store) (view c.read_next.new.self c.read_next.new.store) (view c.args.output.now c.args.store.now) (view c.loop-s.output c.loop-s.store) (view c.take.new.out c.take.new.store) (g.T.Text.journal c.args.store.now) (g.T.Text.journal c.loop-s.store) (g.T.Text.journal c.read_next.new.store) (g.T.Text.journal c.take.new.store) now.logged c.read_next.ensures.logged took);
     }

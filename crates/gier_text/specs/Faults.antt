@@ -1,0 +1,32 @@
+-- The text of each kind of fault.
+use Rattle.std.specs.Prelude.{ℕ, List, codes}
+use Rattle.gier_text.specs.declared.fault.FaultKind.{FaultKind}
+use Rattle.gier_text.specs.declared.fault.FaultKind.TheVariants.{TooLong, Character, Word, Unclosed, Number, Structure, DeclaredTwice, NotDeclared, LocalInBound, NotFormal, SpecifiedTwice, NotSpecified, Level, ListTooLong, Value, Kind, Subscripts, ParameterCount, Parameter, Bound, ForElement, Condition, Branches, Designational, Assignment, Operand}
+
+abbrev pub text_of_fault : FaultKind → List ℕ
+text_of_fault TooLong = codes "program too long"
+text_of_fault Character = codes "character"
+text_of_fault Word = codes "word"
+text_of_fault Unclosed = codes "string"
+text_of_fault Number = codes "number"
+text_of_fault Structure = codes "structure"
+text_of_fault DeclaredTwice = codes "declared twice"
+text_of_fault NotDeclared = codes "not declared"
+text_of_fault LocalInBound = codes "local in bound"
+text_of_fault NotFormal = codes "not formal"
+text_of_fault SpecifiedTwice = codes "specified twice"
+text_of_fault NotSpecified = codes "not specified"
+text_of_fault Level = codes "level"
+text_of_fault ListTooLong = codes "list too long"
+text_of_fault Value = codes "value"
+text_of_fault Kind = codes "kind"
+text_of_fault Subscripts = codes "subscripts"
+text_of_fault ParameterCount = codes "parameter count"
+text_of_fault Parameter = codes "parameter"
+text_of_fault Bound = codes "bound"
+text_of_fault ForElement = codes "for"
+text_of_fault Condition = codes "condition"
+text_of_fault Branches = codes "branches"
+text_of_fault Designational = codes "designational"
+text_of_fault Assignment = codes "assignment"
+text_of_fault Operand = codes "operand"
