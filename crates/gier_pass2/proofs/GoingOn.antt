@@ -25,21 +25,21 @@ none_left (x ∷ xs) h = absurd (omega arith)
 last_more : (written ws : List Symbol) → Closes ws → ends_with false (written ++ ws) ≡ true
 last_more written ws closes = with_append false written ws ∙ closes (ends_with false written)
 
-pub stands_more : (pass new : Pass2) (t u : Kept) (read written ws : List Symbol) (s : Symbol) → Stands pass t read written → HasRun new u → new.read ≡ pass.read + 1 → length ws + waiting_in new ≤ waiting_in pass + 1 → All IsWritable ws → ends (symbols_of new.waiting) ≡ 0 → ends ws ≡ end_in (is_end s) → (IsTrue (is_end s) → Closes ws × (waiting_in new ≡ 0)) → Stands new u (read ++ s ∷ []) (written ++ ws)
-stands_more pass new t u read written ws s h run more few writable inner same last = record {
+pub stands_more : (pass new : Pass2) (t u : Kept) (read written ws : List Symbol) (s : Symbol) → Stands pass t read written → HasRun new u → new.bytes ≡ pass.bytes → new.read ≡ pass.read + 1 → length ws + waiting_in new ≤ waiting_in pass + 1 → All (IsWritable pass.bytes) ws → ends (symbols_of new.waiting) ≡ 0 → ends ws ≡ end_in (is_end s) → (IsTrue (is_end s) → Closes ws × (waiting_in new ≡ 0)) → Stands new u (read ++ s ∷ []) (written ++ ws)
+stands_more pass new t u read written ws s h run same_bytes more few writable inner same last = record {
   run = run;
   taken = omega (arith, h.taken, more, length-append read (s ∷ []));
   few = omega (arith, h.few, few, length-append read (s ∷ []), length-append written ws);
-  letters = All-append IsWritable written ws h.letters writable;
+  letters = rw same_bytes (All-append (IsWritable pass.bytes) written ws h.letters writable);
   inner = inner;
   same_ends = omega (arith, h.same_ends, same, ends_append written ws, ends_append read (s ∷ []));
   last = λ ended. let closed = last (sym (with_append false read (s ∷ [])) ∙ ended) in (last_more written ws closed.0, closed.1);
 }
 
-pub relates_end : (pass new : Pass2) (t u : Kept) (read written ws : List Symbol) → Stands pass t read written → length ws ≤ waiting_in pass → All IsWritable ws → ends ws ≡ 0 → Relates new u read (written ++ ws)
-relates_end pass new t u read written ws h few writable none = record {
+pub relates_end : (pass new : Pass2) (t u : Kept) (read written ws : List Symbol) → Stands pass t read written → new.bytes ≡ pass.bytes → length ws ≤ waiting_in pass → All (IsWritable pass.bytes) ws → ends ws ≡ 0 → Relates new u read (written ++ ws)
+relates_end pass new t u read written ws h same_bytes few writable none = record {
   few = omega (arith, h.few, few, length-append written ws);
-  letters = All-append IsWritable written ws h.letters writable;
+  letters = rw same_bytes (All-append (IsWritable pass.bytes) written ws h.letters writable);
   ended = λ ended. record {
     once = omega (arith, h.same_ends, ended.once, none, ends_append written ws);
     last = let closed = h.last ended.last in let empty : ws ≡ [] = none_left ws (omega (arith, closed.1, few)) in rw (empty, append-nil written) closed.0;

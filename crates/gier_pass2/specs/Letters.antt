@@ -5,11 +5,13 @@ use Rattle.gier_symbol.specs.declared.tag.Tag.TheVariants.{TextEnd}
 use Rattle.gier_symbol.specs.Symbols.{IsSymbol}
 use Rattle.gier_symbol.specs.Tags.{number_of}
 use Rattle.gier_symbol.specs.Texts.{stands_in}
+use Rattle.gier_text.specs.Growth.{is_numbered}
 
--- a symbol of text 2
-pub record IsWritable (s : Symbol) : Type 0 where
+-- a symbol of text 2 of a program of so many bytes
+pub record IsWritable (bytes : ℕ) (s : Symbol) : Type 0 where
   pub symbol : IsSymbol s
   pub letter : IsTrue (stands_in 2 s.tag)
+  pub numbered : IsTrue (is_numbered 2 bytes s)
 
 -- the end of the text
 abbrev pub is_end : Symbol → Bool

@@ -8,7 +8,6 @@ use Rattle.gier_text.specs.Kept.{Kept, AddsFault}
 use Rattle.gier_pass2.specs.declared.runs.Run.{Run}
 use Rattle.gier_pass2.specs.declared.runs.Run.TheVariants.{Nothing, Name, Number}
 use Rattle.gier_pass2.specs.declared.runs.Assembled.{Assembled}
-use Rattle.gier_pass2.specs.Letters.{IsWritable}
 use Rattle.gier_pass2.specs.Waiting.{is_kind}
 
 -- a run of an identifier is at a node, of which there are so many
@@ -43,12 +42,10 @@ pub record GivesName (at_line : ℕ) (is_plain : Bool) (word : Assembled) : Type
   pub tag : word.symbol.tag ≡ number_of Identifier
   pub line : word.symbol.line ≡ at_line
   pub plain : word.plain ≡ is_plain
-  pub writable : IsWritable word.symbol
 
 pub record GivesNumber (total at_line : ℕ) (word : Assembled) : Type 0 where
   pub symbol : word.symbol ≡ record { tag = number_of NumberTag; value = if nat_lt total (2 ^ 39) then total else 0; line = at_line }
   pub plain : word.plain ≡ false
-  pub writable : IsWritable word.symbol
 
 abbrev pub EndsAs : Run → Option Assembled → Type 0
 EndsAs Nothing None = Unit {0}

@@ -25,7 +25,7 @@ pub record IsReady (pass : Pass2) (t : Kept) : Type 0 where
   pub small : t.limit ≤ 524288
   pub limit : pass.bytes ≤ t.limit
   pub within : pass.read ≤ pass.bytes + 1
-  pub waiting : IsWaiting pass.waiting
+  pub waiting : IsWaiting pass.bytes pass.waiting
 
 -- the same in a run
 pub record HasRun (pass : Pass2) (t : Kept) : Type 0 where
@@ -43,7 +43,7 @@ pub record Stands (pass : Pass2) (t : Kept) (read written : List Symbol) : Type 
   pub run : HasRun pass t
   pub taken : pass.read ≡ length read
   pub few : length written + waiting_in pass ≤ length read
-  pub letters : All IsWritable written
+  pub letters : All (IsWritable pass.bytes) written
   pub inner : ends (symbols_of pass.waiting) ≡ 0
   pub same_ends : ends written ≡ ends read
   pub last : ends_with false read ≡ true → (ends_with false written ≡ true) × (waiting_in pass ≡ 0)
@@ -52,7 +52,7 @@ pub record Stands (pass : Pass2) (t : Kept) (read written : List Symbol) : Type 
 -- nowhere else in what was taken, so it is in what was written
 pub record Relates (pass : Pass2) (t : Kept) (read written : List Symbol) : Type 0 where
   pub few : length written ≤ length read
-  pub letters : All IsWritable written
+  pub letters : All (IsWritable pass.bytes) written
   pub ended : IsEnded read → IsEnded written
 
 -- letters of text 1, at most one for each byte and one for the end

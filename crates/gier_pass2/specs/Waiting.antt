@@ -16,11 +16,11 @@ symbols_of (Name shut name) = shut ∷ name ∷ []
 symbols_of (Colon shut name colon) = shut ∷ name ∷ colon ∷ []
 
 -- each symbol that waits is one of text 2
-abbrev pub IsWaiting : Waiting → Type 0
-IsWaiting Nothing = Unit {0}
-IsWaiting (Shut shut) = IsWritable shut
-IsWaiting (Name shut name) = IsWritable shut × IsWritable name
-IsWaiting (Colon shut name colon) = IsWritable shut × (IsWritable name × IsWritable colon)
+abbrev pub IsWaiting : ℕ → Waiting → Type 0
+IsWaiting bytes Nothing = Unit {0}
+IsWaiting bytes (Shut shut) = IsWritable bytes shut
+IsWaiting bytes (Name shut name) = IsWritable bytes shut × IsWritable bytes name
+IsWaiting bytes (Colon shut name colon) = IsWritable bytes shut × (IsWritable bytes name × IsWritable bytes colon)
 
 abbrev pub is_kind : Tag → Symbol → Bool
 is_kind kind s = s.tag == number_of kind

@@ -1,5 +1,5 @@
 // The parameter comma: `)`, an identifier of letters only, `:` and `(` are one `,`.
-ghost use Rattle.std.specs.Prelude.{◌≡◌, ◌≤◌, ◌+◌, ◌++◌, [], length, IfSome};
+ghost use Rattle.std.specs.Prelude.{◌≡◌, ◌≤◌, ◌+◌, ◌++◌, [], ℕ, length, IfSome};
 ghost use Rattle.gier_pass2.specs.Letters.{IsWritable};
 ghost use Rattle.gier_pass2.specs.Given.{listed};
 ghost use Rattle.gier_pass2.specs.Waiting.{symbols_of, is_kind, longer_by, waits_after, given_by, IsWaiting};
@@ -27,12 +27,10 @@ fn is(kind: Tag, s: Symbol) -> bool
 
 // What waits where the symbol may belong to the same comma.
 fn longer(waiting: Waiting, s: Symbol, plain: bool) -> Option<Waiting>
-    requires waiting { IsWaiting waiting }
-    requires writable { IsWritable s }
     ensures longer { result ≡ longer_by waiting s plain }
     ensures waits { IfSome result (λ more. more ≡ waits_after waiting s plain) }
     ensures given { IfSome result (λ more. given_by waiting s plain ≡ []) }
-    ensures writable { IfSome result IsWaiting }
+    ensures writable { (bytes : ℕ) → IsWaiting bytes waiting → IsWritable bytes s → IfSome result (IsWaiting bytes) }
 {
     match waiting {
         Waiting::Nothing => {
@@ -60,8 +58,9 @@ fn longer(waiting: Waiting, s: Symbol, plain: bool) -> Option<Waiting>
 /// Gives all that waits.
 pub(crate) fn give(waiting: Waiting, ready: &mut Few)
     requires room { length (listed ready.old) + length (symbols_of waiting) ≤ 5 }
-    requires writable { IsWaiting waiting }
-    ensures { listed ready.new ≡ listed ready.old ++ symbols_of waiting }
+    requires writable { IsWaiting ready.old.bytes waiting }
+    ensures bytes { ready.new.bytes ≡ ready.old.bytes }
+    ensures given { listed ready.new ≡ listed ready.old ++ symbols_of waiting }
 {
     match waiting {
         Waiting::Nothing => {}
@@ -83,12 +82,13 @@ pub(crate) fn give(waiting: Waiting, ready: &mut Few)
 /// `plain` tells an identifier of letters only.
 pub(crate) fn feed(waiting: Waiting, s: Symbol, plain: bool, ready: &mut Few) -> Waiting
     requires room { length (listed ready.old) + length (symbols_of waiting) + 1 ≤ 5 }
-    requires waiting { IsWaiting waiting }
-    requires writable { IsWritable s }
+    requires waiting { IsWaiting ready.old.bytes waiting }
+    requires writable { IsWritable ready.old.bytes s }
+    ensures bytes { ready.new.bytes ≡ ready.old.bytes }
     ensures waits { result ≡ waits_after waiting s plain }
     ensures given { listed ready.new ≡ listed ready.old ++ given_by waiting s plain }
     ensures few { length (listed ready.new) + length (symbols_of result) ≤ length (listed ready.old) + length (symbols_of waiting) + 1 }
-    ensures writable { IsWaiting result }
+    ensures writable { IsWaiting ready.old.bytes result }
 {
     if let Some(more) = longer(waiting, s, plain) {
         return more;

@@ -12,26 +12,31 @@ const MOST: usize = 5;
 pub(crate) struct Few {
     symbols: [Symbol; MOST],
     count: usize,
+    // How many bytes the program has.
+    bytes: u32,
     ghost within: { count ≤ 5 },
-    ghost writable: { All IsWritable symbols },
+    ghost writable: { All (IsWritable bytes) symbols },
 }
 
 impl Few {
     ghost use Rattle.gier_pass2.specs.Given.{listed};
 
-    pub(crate) fn none() -> Few
-        ensures { listed result ≡ [] }
+    pub(crate) fn none(bytes: u32) -> Few
+        ensures none { listed result ≡ [] }
+        ensures bytes { result.bytes ≡ bytes }
     {
         Few {
             symbols: [Symbol::new(Tag::TextEnd, 0, 0); MOST],
             count: 0,
+            bytes,
         }
     }
 
     pub(crate) fn push(&mut self, s: Symbol)
         requires room { length (listed self.old) < 5 }
-        requires writable { IsWritable s }
-        ensures { listed self.new ≡ listed self.old ++ s ∷ [] }
+        requires writable { IsWritable self.old.bytes s }
+        ensures bytes { self.new.bytes ≡ self.old.bytes }
+        ensures pushed { listed self.new ≡ listed self.old ++ s ∷ [] }
     {
         self.symbols[self.count] = s;
         self.count += 1;
@@ -39,7 +44,7 @@ impl Few {
 
     pub(crate) fn as_slice(&self) -> &[Symbol]
         ensures listed { result.now ≡ listed self.now }
-        ensures writable { All IsWritable result.now }
+        ensures writable { All (IsWritable self.now.bytes) result.now }
         ensures few { length result.now ≤ 5 }
     {
         &self.symbols[..self.count]

@@ -126,10 +126,10 @@ pub(crate) fn number(tables: &mut Tables, node: u32, names: &mut u32) -> u64
     ensures kept { KeepsNodes (kept tables.old) (kept tables.new) }
     ensures same { node_count (kept tables.new) ≡ node_count (kept tables.old) }
     ensures few { names.new ≤ names.old + 1 }
-    ensures value { result < 2 ^ 40 }
+    ensures value { result < names.new }
 {
     let known = tables.word(NODES, node, NUMBER);
-    if known != 0 {
+    if known != 0 && known <= u64::from(*names) {
         return known - 1;
     }
     let number = *names;

@@ -57,14 +57,16 @@ impl Pass2 {
         requires run { HasRun self.old (kept tables.old) }
         requires inner { ends (symbols_of self.old.waiting) ≡ 0 }
         ensures ready { IsReady self.new (kept tables.new) }
+        ensures limit { (kept tables.new).limit ≡ (kept tables.old).limit }
         ensures read { self.new.read ≡ self.old.read }
         ensures bytes { self.new.bytes ≡ self.old.bytes }
         ensures run { running self.new.run ≡ 0 }
         ensures few { length (listed result) + length (symbols_of self.new.waiting) ≤ waiting_in self.old }
-        ensures writable { All IsWritable (listed result) }
+        ensures writable { All (IsWritable self.old.bytes) (listed result) }
+        ensures of_bytes { result.bytes ≡ self.old.bytes }
         ensures no_end { ends (listed result) + ends (symbols_of self.new.waiting) ≡ 0 }
     {
-        let mut ready = Few::none();
+        let mut ready = Few::none(self.bytes);
         if let Some(word) = ended(self.run, tables, &mut self.known) {
             self.waiting = feed(self.waiting, word.symbol, word.plain, &mut ready);
         }
@@ -80,10 +82,12 @@ impl Pass2 {
         requires symbol { IsSymbol s }
         requires letter { IsTrue (stands_in 1 s.tag) }
         ensures stands { HasRun self.new (kept tables.new) }
+        ensures limit { (kept tables.new).limit ≡ (kept tables.old).limit }
         ensures read { self.new.read ≡ self.old.read + 1 }
         ensures bytes { self.new.bytes ≡ self.old.bytes }
         ensures few { length (listed result) + waiting_in self.new ≤ waiting_in self.old + 1 }
-        ensures writable { All IsWritable (listed result) }
+        ensures writable { All (IsWritable self.old.bytes) (listed result) }
+        ensures of_bytes { result.bytes ≡ self.old.bytes }
         ensures inner { ends (symbols_of self.new.waiting) ≡ 0 }
         ensures ends { ends (listed result) ≡ end_in (is_end s) }
         ensures last { IsTrue (is_end s) → Closes (listed result) × (waiting_in self.new ≡ 0) }
@@ -91,7 +95,7 @@ impl Pass2 {
         if goes_on(self.run, s) {
             self.run = grown(self.run, s, tables);
             self.read += 1;
-            return Few::none();
+            return Few::none(self.bytes);
         }
         let mut ready = self.finish(tables);
         self.run = begun(s, self.read, tables);
@@ -107,8 +111,10 @@ impl Pass2 {
         requires run { HasRun self.old (kept tables.old) }
         requires inner { ends (symbols_of self.old.waiting) ≡ 0 }
         ensures few { length (listed result) ≤ waiting_in self.old }
+        ensures limit { (kept tables.new).limit ≡ (kept tables.old).limit }
         ensures no_end { ends (listed result) ≡ 0 }
-        ensures writable { All IsWritable (listed result) }
+        ensures writable { All (IsWritable self.old.bytes) (listed result) }
+        ensures of_bytes { result.bytes ≡ self.old.bytes }
         ensures read { self.new.read ≡ self.old.read }
         ensures bytes { self.new.bytes ≡ self.old.bytes }
     {

@@ -1,9 +1,9 @@
 // Runs of letters and digits, of which each is one identifier or one number.
-ghost use Rattle.std.specs.Prelude.{◌≡◌, ◌≤◌, ◌<◌, ◌+◌, ◌*◌, ◌^◌, length, IsTrue, IfSome, min, false, true};
+ghost use Rattle.std.specs.Prelude.{◌≡◌, ◌≤◌, ◌<◌, ◌+◌, ◌*◌, ◌^◌, ℕ, length, IsTrue, IfSome, min, false, true};
 ghost use Rattle.gier_symbol.specs.Symbols.{IsSymbol};
 ghost use Rattle.gier_text.specs.Kept.{kept};
 ghost use Rattle.gier_text.specs.Lists.{list_at};
-ghost use Rattle.gier_pass2.specs.Letters.{is_end};
+ghost use Rattle.gier_pass2.specs.Letters.{is_end, IsWritable};
 ghost use Rattle.gier_pass2.specs.Names.{HasNodes, KeepsNodes, node_count};
 ghost use Rattle.gier_pass2.specs.Runs.{IsRun, EndsAs, running, goes_on, begins, Values};
 ghost use Rattle.gier_pass2.specs.Waiting.{is_kind};
@@ -157,6 +157,7 @@ pub(crate) fn ended(run: Run, tables: &mut Tables, known: &mut u32) -> Option<As
     ensures faults { length (kept tables.new).faults ≤ length (kept tables.old).faults + running run }
     ensures few { known.new ≤ known.old + running run }
     ensures ends { EndsAs run result }
+    ensures writable { IfSome result (λ word. (bytes : ℕ) → known.new ≤ bytes + 64 → IsWritable bytes word.symbol) }
     ensures no_end { IfSome result (λ word. is_end word.symbol ≡ false) }
 {
     match run {

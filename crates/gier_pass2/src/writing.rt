@@ -1,5 +1,5 @@
 // Writes the symbols that a step gives.
-ghost use Rattle.std.specs.Prelude.{◌≡◌, ◌≤◌, ◌+◌, All, OnOk, IsErrOf, IsTrue, false, length};
+ghost use Rattle.std.specs.Prelude.{◌≡◌, ◌≤◌, ◌+◌, ℕ, All, OnOk, IsErrOf, IsTrue, false, length};
 ghost use Rattle.gier_word.specs.Cause.{HasRisen};
 ghost use Rattle.gier_text.specs.declared.pass.PassStop.TheVariants.{Drum, Memory, Full};
 ghost use Rattle.gier_text.specs.Log.{Logged};
@@ -16,7 +16,7 @@ pub(crate) fn write_all<T: Text>(
     out: &mut T,
     symbols: &[Symbol],
 ) -> Result<(), PassStop>
-    requires symbols { All IsWritable symbols.now }
+    requires symbols { (bytes : ℕ) × All (IsWritable bytes) symbols.now }
     requires writing { (T.view out.old store.old).rewound ≡ false }
     requires placed { T.end_track out.old ≤ T.room store.old }
     ensures written { OnOk result (WritesAll (T.view out.old store.old) symbols.now (T.view out.new store.new)) }

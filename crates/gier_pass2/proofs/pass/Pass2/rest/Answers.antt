@@ -24,4 +24,4 @@ pub give-requires-clause-room : goal.give-requires-clause-room
 give-requires-clause-room c = omega (arith, c.finish-ready.ensures.few, three_wait c.args.self.now.waiting, one_run c.args.self.now.run)
 
 pub returns-clause-no_end : goal.returns-clause-no_end
-returns-clause-no_end c = rw c.give.ensures (omega (arith, ends_append (listed c.finish-ready.result) (symbols_of c.finish-ready.new.self.waiting), c.finish-ready.ensures.no_end))
+returns-clause-no_end c = rw c.give.ensures.given (omega (arith, ends_append (listed c.finish-ready.result) (symbols_of c.finish-ready.new.self.waiting), c.finish-ready.ensures.no_end))
