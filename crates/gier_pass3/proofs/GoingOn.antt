@@ -1,0 +1,101 @@
+-- How the pass goes on standing when symbols are written, and how many they are.
+use Rattle.std.proofs.Common.{◌≡◌, ◌≤◌, ◌+◌, ◌*◌, ◌∙◌, ℕ, List, [], ◌∷◌, ◌++◌, arith, ap, length, length-append, refl, subst, Bool, true, false, get_or}
+use Rattle.std.specs.Prelude.{All, IsTrue, not, OnOk, Result, Ok, Err}
+use Rattle.std.proofs.lemmas.List.{get_or-set_same, get_or-set_other, length-set}
+use Rattle.std.proofs.lemmas.List.Elements.{All-append}
+use Rattle.gier_symbol.specs.declared.symbol.Symbol.{Symbol}
+use Rattle.gier_text.specs.Growth.{weight, is_numbered}
+use Rattle.gier_text.specs.Kept.{Kept, with_at}
+use Rattle.gier_text.specs.Lists.{no_list, cut_to}
+use Rattle.gier_text.specs.Outbox.{waiting}
+use Rattle.gier_text.specs.Passes.{HasLess}
+use Rattle.gier_text.specs.View.{View}
+use Rattle.gier_pass3.specs.declared.pass.Pass3.{Pass3}
+use Rattle.gier_pass3.specs.Items.{credit_in}
+use Rattle.gier_pass3.specs.Lists.{HasLists, stack_in, held_in, ready_in, ready_by}
+use Rattle.gier_pass3.specs.Standing.{IsFit, Holds, IsReady, Steps, Stands, load}
+use Rattle.gier_pass3.proofs.Loads.{weight_append, length_weight, no_fit}
+
+pub less_more : (text : View) (m n : ℕ) → HasLess text m → m ≤ n → HasLess text n
+less_more text m n less le = (less.0, less.1, omega (arith, less.2, le))
+
+pub both_ok : {T E : Type 0} (r : Result T E) (P Q R : Type 0) → (P → Q → R) → OnOk r P → OnOk r Q → OnOk r R
+both_ok (Ok x) P Q R f p q = f p q
+both_ok (Err e) P Q R f p q = tt
+
+-- the list of symbols that are ready, emptied
+abbrev emptied : Kept → Kept
+emptied u = with_at u 2 (cut_to (ready_in u) 0)
+
+ready_after : (u : Kept) → HasLists u → ready_in (emptied u) ≡ cut_to (ready_in u) 0
+ready_after u h = get_or-set_same u.lists 2 (cut_to (ready_in u) 0) no_list (omega (arith, h.lists))
+
+stack_after : (u : Kept) → HasLists u → stack_in (emptied u) ≡ stack_in u
+stack_after u h = get_or-set_other u.lists 2 0 (cut_to (ready_in u) 0) no_list (λ e. absurd (omega (arith, e)))
+
+held_after : (u : Kept) → HasLists u → held_in (emptied u) ≡ held_in u
+held_after u h = get_or-set_other u.lists 2 1 (cut_to (ready_in u) 0) no_list (λ e. absurd (omega (arith, e)))
+
+none_after : (u : Kept) → HasLists u → ready_by (emptied u) ≡ []
+none_after u h = ap waiting (ready_after u h)
+
+lists_after : (u : Kept) → HasLists u → HasLists (emptied u)
+lists_after u h = record {
+  lists = length-set u.lists 2 (cut_to (ready_in u) 0) ∙ h.lists;
+  stack = ap (λ l. l.width) (stack_after u h) ∙ h.stack;
+  held = ap (λ l. l.width) (held_after u h) ∙ h.held;
+  ready = ap (λ l. l.width) (ready_after u h) ∙ h.ready;
+  all_held = rw (held_after u h) h.all_held;
+  all_ready = rw (ready_after u h) refl;
+}
+
+holds_after : (pass : Pass3) (u : Kept) → Holds pass u → Holds pass (emptied u)
+holds_after pass u h = record {
+  lists = lists_after u h.lists;
+  stack_room = ap (λ l. l.capacity) (stack_after u h.lists) ∙ h.stack_room;
+  held_room = ap (λ l. l.capacity) (held_after u h.lists) ∙ h.held_room;
+  ready_room = ap (λ l. l.capacity) (ready_after u h.lists) ∙ h.ready_room;
+  held = rw (held_after u h.lists) h.held;
+  ready = rw (none_after u h.lists) (no_fit pass.bytes);
+  name = h.name;
+  line = h.line;
+}
+
+is_ready_after : (pass : Pass3) (u : Kept) → IsReady pass u → IsReady pass (emptied u)
+is_ready_after pass u h = record {
+  holds = holds_after pass u h.holds;
+  few = h.few;
+  deep = omega (arith, ap (λ l. l.count) (stack_after u h.holds.lists), h.deep);
+  within = h.within;
+  limit = h.limit;
+  small = h.small;
+}
+
+load_after : (pass : Pass3) (u : Kept) → HasLists u → load pass (emptied u) + weight 3 (ready_by u) ≡ load pass u
+load_after pass u h = omega (arith, ap credit_in (stack_after u h), ap (λ l. weight 3 (waiting l)) (held_after u h), ap (λ l. weight 3 l) (none_after u h))
+
+same_fit : (old new : ℕ) (list : List Symbol) → new ≡ old → All (IsFit 3 old) list → All (IsFit 3 new) list
+same_fit old new list e h = rw e h
+
+pub stands_more : (pass new : Pass3) (t u : Kept) (read written : List Symbol) (s : Symbol) → Stands pass t read written → Steps pass new t u → Stands new (emptied u) (read ++ s ∷ []) (written ++ ready_by u)
+stands_more pass new t u read written s h steps = record {
+  ready = is_ready_after new u steps.ready;
+  none_ready = none_after u steps.ready.holds.lists;
+  taken = omega (arith, steps.read, h.taken, length-append read (s ∷ []));
+  letters = All-append (IsFit 3 new.bytes) written (ready_by u) (same_fit pass.bytes new.bytes written steps.bytes h.letters) steps.ready.holds.ready;
+  light = omega (arith, h.light, steps.load, load_after new u steps.ready.holds.lists, weight_append written (ready_by u), length-append read (s ∷ []));
+}
+
+pub few_more : (pass new : Pass3) (t u : Kept) (read written : List Symbol) → Stands pass t read written → Steps pass new t u → pass.read ≤ pass.bytes → length written + length (ready_by u) ≤ 8 * pass.bytes + 10
+few_more pass new t u read written h steps more = omega (arith, h.light, h.taken, steps.load, length_weight written, length_weight (ready_by u), more)
+
+middle : (read rest : List Symbol) (s : Symbol) → get_or (read ++ (s ∷ []) ++ rest) (length read) s ≡ s
+middle [] rest s = refl
+middle (x ∷ read) rest s = middle read rest s
+
+pub numbered_at : (bytes : ℕ) (read rest : List Symbol) (s : Symbol) → All (λ s. IsTrue (is_numbered 2 bytes s)) (read ++ (s ∷ []) ++ rest) → IsTrue (is_numbered 2 bytes s)
+numbered_at bytes read rest s all = subst (λ x. IsTrue (is_numbered 2 bytes x)) (middle read rest s) (all (length read) s (omega (arith, length-append (read ++ (s ∷ [])) rest, length-append read (s ∷ []))))
+
+pub refuted : (r n : Bool) → r ≡ not n → r ≡ true → n ≡ true → ⊥
+refuted r true e is well = grind arith
+refuted r false e is well = grind arith

@@ -1,0 +1,5 @@
+pub mod Credit
+pub mod StackWords
+pub mod Loads
+pub mod Released
+pub mod GoingOn

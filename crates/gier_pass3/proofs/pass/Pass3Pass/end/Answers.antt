@@ -1,0 +1,14 @@
+use Rattle.std.proofs.Common.{arith, ap, length, List, ◌*◌, ◌+◌}
+use Rattle.gier_symbol.specs.declared.symbol.Symbol.{Symbol}
+use Rattle.gier_text.proofs.Driven.{OnOk-map}
+use Rattle.gier_pass3.proofs.Loads.{length_weight}
+use Rattle.gier_pass3.proofs.GoingOn.{less_more}
+use Rattle.gier_pass3.proofs.pass.Pass3Pass.end.Goals as goal
+
+pub returns-clause-roomy : goal.returns-clause-roomy
+returns-clause-roomy g c = λ whole full.
+    less_more (g.T.Text.view c.args.out.now c.args.store.now) _ (8 * c.args.self.now.bytes + 64) (c.flush.ensures.roomy full) (omega (arith, whole.counted, ap (λ (l : List Symbol). length l) whole.so_far.none_ready, length_weight whole.written, whole.so_far.light, whole.so_far.taken, whole.so_far.ready.within))
+
+pub returns-clause-bounded : goal.returns-clause-bounded
+returns-clause-bounded g c = λ whole.
+    OnOk-map c.flush.result _ _ (λ wrote. omega (arith, wrote.count, whole.counted, ap (λ (l : List Symbol). length l) whole.so_far.none_ready, length_weight whole.written, whole.so_far.light, whole.so_far.taken, whole.so_far.ready.within)) c.flush.ensures.written

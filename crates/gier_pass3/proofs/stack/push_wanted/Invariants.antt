@@ -1,0 +1,21 @@
+use Rattle.std.proofs.Common.{◌≡◌, ◌≤◌, ◌<◌, ◌+◌, ◌^◌, length, drop}
+use Rattle.gier_text.specs.Kept.{kept}
+use Rattle.gier_pass3.specs.Items.{credits}
+use Rattle.gier_pass3.specs.Rules.{wants_of}
+use Rattle.gier_pass3.specs.Lists.{KeepsLists, held_in, ready_in, depth, credit}
+use Rattle.gier_pass3.proofs.stack.push_wanted.Given as goal
+
+abbrev pub invariant-loop-at : goal.invariant-loop-at
+invariant-loop-at l = record {
+  items : l.items ≡ wants_of l.fn.rule;
+  within : l.at ≤ length l.items;
+  left : l.left-2 < 2 ^ 32;
+  same_lists : KeepsLists (kept l.fn.tables) (kept l.tables);
+  held : held_in (kept l.tables) ≡ held_in (kept l.fn.tables);
+  ready : ready_in (kept l.tables) ≡ ready_in (kept l.fn.tables);
+  deep : depth (kept l.tables) + l.at ≡ depth (kept l.fn.tables) + length l.items;
+  paid : credit (kept l.tables) ≡ credit (kept l.fn.tables) + credits (drop l.at l.items);
+}
+
+abbrev pub decreases-loop-at : goal.decreases-loop-at
+decreases-loop-at l = l.at

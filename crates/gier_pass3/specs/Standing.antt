@@ -1,0 +1,125 @@
+-- What the pass keeps while it takes symbols, what holds at its end, and which lists it is meant for.
+use Rattle.std.specs.Prelude.{Bool, true, false, ◌≡◌, ◌≤◌, ◌<◌, ◌+◌, ◌*◌, ◌^◌, ℕ, List, [], ◌∷◌, length, All, IsTrue, Option, None, Some}
+use Rattle.gier_symbol.specs.declared.symbol.Symbol.{Symbol}
+use Rattle.gier_symbol.specs.Symbols.{IsSymbol}
+use Rattle.gier_symbol.specs.Texts.{stands_in}
+use Rattle.gier_text.specs.declared.fault.Fault.{Fault}
+use Rattle.gier_text.specs.declared.fault.FaultKind.TheVariants.{Structure}
+use Rattle.gier_text.specs.Growth.{weight, is_numbered, IsLight}
+use Rattle.gier_text.specs.Kept.{Kept}
+use Rattle.gier_pass3.specs.declared.pass.Pass3.{Pass3}
+use Rattle.gier_pass3.specs.Lists.{HasLists, stack_in, held_in, ready_in, depth, credit, held_by, ready_by}
+
+-- a symbol of this text of a program of so many bytes
+pub record IsFit (text bytes : ℕ) (s : Symbol) : Type 0 where
+  pub symbol : IsSymbol s
+  pub letter : IsTrue (stands_in text s.tag)
+  pub numbered : IsTrue (is_numbered text bytes s)
+
+-- an identifier that is held may still become a label
+abbrev pub name_weight : Option Symbol → ℕ
+name_weight None = 0
+name_weight (Some name) = 6
+
+abbrev pub IsName : ℕ → Option Symbol → Type 0
+IsName bytes None = Unit {0}
+IsName bytes (Some name) = IsFit 2 bytes name
+
+-- what is held and ready, and what the items that are wanted may still write
+abbrev pub load : Pass3 → Kept → ℕ
+load pass t = credit t + weight 3 (held_by t) + weight 3 (ready_by t) + name_weight pass.name
+
+-- fields and tables fit each other
+pub record Holds (pass : Pass3) (t : Kept) : Type 0 where
+  pub lists : HasLists t
+  pub stack_room : (stack_in t).capacity ≡ 12 * pass.bytes + 32
+  pub held_room : (held_in t).capacity ≡ 8 * pass.bytes + 16
+  pub ready_room : (ready_in t).capacity ≡ 8 * pass.bytes + 16
+  pub held : All (IsFit 3 pass.bytes) (held_by t)
+  pub ready : All (IsFit 3 pass.bytes) (ready_by t)
+  pub name : IsName pass.bytes pass.name
+  pub line : pass.last < 2 ^ 24
+
+-- the lists have room for so much more load and so many more items
+pub record HasRoom (cost deeper : ℕ) (pass : Pass3) (t : Kept) : Type 0 where
+  pub load : load pass t + cost ≤ 8 * pass.bytes + 16
+  pub depth : depth t + deeper ≤ 12 * pass.bytes + 32
+
+-- the load grows at most by so much, and the stack by so many items
+pub record Moves (cost deeper : ℕ) (pass new : Pass3) (t u : Kept) : Type 0 where
+  pub holds : Holds new u
+  pub load : load new u ≤ load pass t + cost
+  pub depth : depth u ≤ depth t + deeper
+  pub bytes : new.bytes ≡ pass.bytes
+  pub read : new.read ≡ pass.read
+  pub stopped : new.stopped ≡ pass.stopped
+  pub limit : u.limit ≡ t.limit
+  pub faults : u.faults ≡ t.faults
+
+-- at most one fault
+abbrev pub stops : Bool → ℕ
+stops true = 1
+stops false = 0
+
+-- a symbol was met: it was taken, or there is a fault
+pub record Meets (pass new : Pass3) (t u : Kept) : Type 0 where
+  pub holds : Holds new u
+  pub load : load new u ≤ load pass t + 8
+  pub depth : depth u ≤ depth t + 12
+  pub bytes : new.bytes ≡ pass.bytes
+  pub read : new.read ≡ pass.read
+  pub limit : u.limit ≡ t.limit
+  pub few : length u.faults ≤ stops new.stopped
+
+-- the fault, if any: where it stands is told by how many symbols came before it, and by its line
+abbrev pub faults_of : Bool → ℕ → ℕ → List Fault
+faults_of true at_position at_line = record { position = at_position; line = at_line; kind = Structure } ∷ []
+faults_of false at_position at_line = []
+
+-- between symbols, where so many may be taken
+pub record IsReady (pass : Pass3) (t : Kept) : Type 0 where
+  pub holds : Holds pass t
+  pub few : length t.faults ≤ stops pass.stopped
+  pub deep : depth t ≤ 12 * pass.read + 4
+  pub within : pass.read ≤ pass.bytes + 1
+  pub limit : pass.bytes ≤ t.limit
+  pub small : t.limit ≤ 524288
+
+-- a symbol was taken: no more than eight is added to the load
+pub record Steps (pass new : Pass3) (t u : Kept) : Type 0 where
+  pub ready : IsReady new u
+  pub load : load new u ≤ load pass t + 8
+  pub read : new.read ≡ pass.read + 1
+  pub bytes : new.bytes ≡ pass.bytes
+  pub limit : u.limit ≡ t.limit
+
+-- so many symbols were taken; what is written is of text 3, and not too heavy with what is held
+pub record Stands (pass : Pass3) (t : Kept) (read written : List Symbol) : Type 0 where
+  pub ready : IsReady pass t
+  pub none_ready : ready_by t ≡ []
+  pub taken : pass.read ≡ length read
+  pub letters : All (IsFit 3 pass.bytes) written
+  pub light : weight 3 written + load pass t ≤ 8 * length read + 2
+
+-- letters of text 2 with small numbers of identifiers, at most one for each byte and one for the end
+pub record IsTextTwo (bytes : ℕ) (list : List Symbol) : Type 0 where
+  pub letters : All (λ s. IsTrue (stands_in 2 s.tag)) list
+  pub numbered : All (λ s. IsTrue (is_numbered 2 bytes s)) list
+  pub few : length list ≤ bytes + 1
+
+-- what is written is a text 3 that isn't too heavy, and at most one fault was found
+pub record Relates (pass : Pass3) (t : Kept) (read written : List Symbol) : Type 0 where
+  pub light : IsLight 3 pass.bytes written
+  pub few : length t.faults ≤ 1
+
+-- the three lists are there, and empty
+pub record Opens (bytes : ℕ) (t u : Kept) : Type 0 where
+  pub lists : HasLists u
+  pub stack_room : (stack_in u).capacity ≡ 12 * bytes + 32
+  pub held_room : (held_in u).capacity ≡ 8 * bytes + 16
+  pub ready_room : (ready_in u).capacity ≡ 8 * bytes + 16
+  pub no_item : depth u ≡ 0
+  pub none_held : held_by u ≡ []
+  pub none_ready : ready_by u ≡ []
+  pub limit : u.limit ≡ t.limit
+  pub faults : u.faults ≡ t.faults

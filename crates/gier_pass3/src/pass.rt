@@ -1,0 +1,421 @@
+// The pass: what it keeps, and what it does with a symbol.
+ghost use Rattle.std.specs.Prelude.{◌≡◌, ◌≤◌, ◌<◌, ◌+◌, ◌*◌, ◌^◌, [], ℕ, length, All, IsTrue, true, false, not, Some};
+ghost use Rattle.gier_symbol.specs.Symbols.{IsSymbol};
+ghost use Rattle.gier_symbol.specs.Tags.{number_of};
+ghost use Rattle.gier_symbol.specs.Texts.{stands_in};
+ghost use Rattle.gier_text.specs.Growth.{weight_of, is_numbered};
+ghost use Rattle.gier_text.specs.Kept.{kept, fresh};
+ghost use Rattle.gier_pass3.specs.Items.{credit_of, mark_of, mark_symbol, line_by, opened_by};
+ghost use Rattle.gier_pass3.specs.Rules.{cost_of, costs, price, tag_of};
+ghost use Rattle.gier_pass3.specs.Lists.{depth, ready_by};
+ghost use Rattle.gier_pass3.specs.Standing.{IsFit, Holds, Moves, Meets, load, IsReady, Steps, Stands, Relates, IsTextTwo, HasRoom, Opens, faults_of};
+
+use crate::held::{READY, first_line, hold, ready, release_all};
+use crate::item::{Construct, Item, Mark};
+use crate::rule::{Act, Role, Rule};
+use crate::stack::{STACK_WIDTH, pop, push, push_wanted};
+use crate::table::{Doing, decide};
+use gier_symbol::{Alphabet, Coded, Symbol, Tag};
+use gier_text::{Fault, FaultKind, OUTBOX_WIDTH, Pass, PassStop, Tables, Text, flush};
+use gier_word::Odd;
+
+// At most so many items are wanted for each symbol, and so many symbols written.
+const ITEMS_EACH: u32 = 12;
+
+const WRITTEN_EACH: u32 = 8;
+
+// Room for what is wanted before the first symbol, and for what the end writes.
+const FIRST_ITEMS: u32 = 32;
+
+const LAST_WRITTEN: u32 = 16;
+
+// Identifiers have numbers below this and the number of bytes.
+const STANDARD_ROOM: u64 = 64;
+
+/// Pass 3: takes text 2 forward, and writes text 3.
+///
+/// Its tables hold three lists, and at most one fault.
+#[derive(Debug, Drop)]
+pub struct Pass3 {
+    // How many bytes the program has, and how many symbols were taken.
+    bytes: u32,
+    read: u32,
+    // The line of the last symbol that was taken.
+    last: u32,
+    // How many own quantities were declared.
+    owns: u32,
+    // The identifier that is held and may be a label.
+    name: Option<Symbol>,
+    // Whether the fault was found. Nothing is written after it.
+    stopped: bool,
+}
+
+// The number of an identifier; other symbols have none.
+#[tactic(auto, using(crate::proofs::Loads::number_small))]
+fn name_number(s: Symbol) -> u64
+    requires symbol { IsSymbol s }
+    ensures small { result < 2 ^ 40 }
+    ensures numbered { (bytes : ℕ) → IsTrue (is_numbered 2 bytes s) → result < bytes + 64 }
+{
+    if s.tag == Tag::Identifier.number() {
+        s.value
+    } else {
+        0
+    }
+}
+
+// The symbol of a mark.
+fn symbol_of(mark: Mark, line: u32) -> Symbol
+    requires { line < 2 ^ 24 }
+    ensures value { result ≡ mark_symbol mark line }
+    ensures fit { (bytes : ℕ) → IsFit 3 bytes result }
+    ensures weight { weight_of 3 result.tag ≡ 1 }
+{
+    match mark {
+        Mark::Open(construct) => Symbol::new(Tag::OpenMark, construct.number(), line),
+        Mark::Shut(construct) => Symbol::new(Tag::ShutMark, construct.number(), line),
+    }
+}
+
+// A symbol in a role.
+#[tactic(auto, using(crate::proofs::Loads::role_letter, crate::proofs::Loads::small_number))]
+fn in_role(role: Role, s: Symbol) -> Symbol
+    requires symbol { IsSymbol s }
+    ensures fit { (bytes : ℕ) → IsFit 2 bytes s → IsFit 3 bytes result }
+    ensures weight { weight_of 3 result.tag ≡ weight_of 3 (number_of (tag_of role)) }
+{
+    Symbol::new(role.tag(), name_number(s), s.line)
+}
+
+impl Pass3 {
+    /// The pass over text 2 of a program of so many bytes. The tables must be cleared and hold no fault.
+    pub fn open(tables: &mut Tables, bytes: u32) -> Pass3
+        requires cleared { kept tables.old ≡ fresh (kept tables.old).limit }
+        requires bytes { bytes ≤ (kept tables.old).limit }
+        ensures stands { Stands result (kept tables.new) [] [] }
+        ensures bytes { result.bytes ≡ bytes }
+        ensures faults { (kept tables.new).faults ≡ [] }
+        ensures limit { (kept tables.new).limit ≡ (kept tables.old).limit }
+    {
+        open_lists(tables, bytes);
+        push(tables, Item::TextEnd, 0);
+        push(tables, Item::ShutProgram, 0);
+        push(tables, Item::Program, 0);
+        push(tables, Item::OpenProgram, 0);
+        Pass3 {
+            bytes,
+            read: 0,
+            last: 0,
+            owns: 0,
+            name: None,
+            stopped: false,
+        }
+    }
+
+    // Takes a symbol, unless the fault was found.
+    fn step(&mut self, s: Symbol, tables: &mut Tables)
+        requires ready { IsReady self.old (kept tables.old) }
+        requires light { load self.old (kept tables.old) ≤ 8 * self.old.read + 2 }
+        requires more { self.old.read ≤ self.old.bytes }
+        requires symbol { IsFit 2 self.old.bytes s }
+        ensures { Steps self.old self.new (kept tables.old) (kept tables.new) }
+    {
+        if !self.stopped {
+            if let Some(kind) = Tag::of(s.tag) {
+                self.meet(kind, s, tables);
+            }
+        }
+        self.read += 1;
+    }
+
+    // What is wanted next takes the symbol, or there is a fault.
+    fn meet(&mut self, kind: Tag, s: Symbol, tables: &mut Tables)
+        requires holds { Holds self.old (kept tables.old) }
+        requires room { HasRoom 8 12 self.old (kept tables.old) }
+        requires none { (kept tables.old).faults ≡ [] }
+        requires going { self.old.stopped ≡ false }
+        requires symbol { IsFit 2 self.old.bytes s }
+        ensures meets { Meets self.old self.new (kept tables.old) (kept tables.new) }
+        ensures faults { (kept tables.new).faults ≡ faults_of self.new.stopped self.old.read s.line }
+    {
+        let mut opened = false;
+        while let Some(wanted) = pop(tables) {
+            match decide(wanted.item, kind, wanted.left) {
+                Doing::Refused => {
+                    self.fail(s.line, tables);
+                    return;
+                }
+                Doing::Passed => {
+                    opened = self.pass_by(wanted.item, s.line, opened, tables);
+                }
+                Doing::Taken(rule) => {
+                    self.take_by(rule, wanted.left, s, tables);
+                    return;
+                }
+            }
+        }
+        self.fail(s.line, tables);
+    }
+
+    // No program goes on with a symbol of this line.
+    fn fail(&mut self, line: u32, tables: &mut Tables)
+        requires holds { Holds self.old (kept tables.old) }
+        requires none { (kept tables.old).faults ≡ [] }
+        ensures meets { Meets self.old self.new (kept tables.old) (kept tables.new) }
+        ensures stopped { self.new.stopped ≡ true }
+        ensures faults { (kept tables.new).faults ≡ faults_of true self.old.read line }
+    {
+        self.stopped = true;
+        tables.add_fault(Fault {
+            position: self.read,
+            line,
+            kind: FaultKind::Structure,
+        });
+    }
+
+    // A rule takes the symbol.
+    fn take_by(&mut self, rule: Rule, left: u64, s: Symbol, tables: &mut Tables)
+        requires holds { Holds self.old (kept tables.old) }
+        requires room { HasRoom (price rule) 12 self.old (kept tables.old) }
+        requires small { left < 2 ^ 32 }
+        requires symbol { IsFit 2 self.old.bytes s }
+        ensures { Moves (price rule) 12 self.old self.new (kept tables.old) (kept tables.new) }
+    {
+        self.apply(rule.acts(), s, tables);
+        push_wanted(tables, rule, left);
+        self.last = s.line;
+    }
+
+    // Writes what an item that is passed writes: a mark, or what was held for it. Tells whether a construct was opened
+    // before this symbol, and has none.
+    fn pass_by(&mut self, item: Item, here: u32, opened: bool, tables: &mut Tables) -> bool
+        requires holds { Holds self.old (kept tables.old) }
+        requires room { HasRoom (credit_of item) 0 self.old (kept tables.old) }
+        requires here { here < 2 ^ 24 }
+        ensures moves { Moves (credit_of item) 0 self.old self.new (kept tables.old) (kept tables.new) }
+        ensures opened { result ≡ opened_by (mark_of item) opened }
+    {
+        if let Some(mark) = item.mark() {
+            return self.write_mark(mark, here, opened, tables);
+        }
+        match item {
+            Item::Statement | Item::AfterName | Item::Branch | Item::AfterBranchName => {
+                self.release(tables);
+                opened
+            }
+            _ => opened,
+        }
+    }
+
+    fn write_mark(&mut self, mark: Mark, here: u32, opened: bool, tables: &mut Tables) -> bool
+        requires holds { Holds self.old (kept tables.old) }
+        requires room { HasRoom 1 0 self.old (kept tables.old) }
+        requires here { here < 2 ^ 24 }
+        ensures moves { Moves 1 0 self.old self.new (kept tables.old) (kept tables.new) }
+        ensures opened { result ≡ opened_by (Some mark) opened }
+    {
+        let line = self.line_of(mark, here, opened);
+        self.write(symbol_of(mark, line), tables);
+        match mark {
+            Mark::Open(_) => true,
+            Mark::Shut(_) => false,
+        }
+    }
+
+    // A construct ends with the last symbol; one without symbols has the line of the symbol that follows.
+    fn line_of(&self, mark: Mark, here: u32, opened: bool) -> u32
+        requires last { self.now.last < 2 ^ 24 }
+        requires here { here < 2 ^ 24 }
+        ensures value { result ≡ line_by mark here self.now.last opened }
+        ensures small { result < 2 ^ 24 }
+    {
+        match mark {
+            Mark::Open(_) => here,
+            Mark::Shut(_) => { if opened { here } else { self.last } }
+        }
+    }
+
+    // Does with the symbol what the acts tell, in order.
+    fn apply(&mut self, acts: &[Act], s: Symbol, tables: &mut Tables)
+        requires holds { Holds self.old (kept tables.old) }
+        requires room { HasRoom (costs acts.now) 0 self.old (kept tables.old) }
+        requires symbol { IsFit 2 self.old.bytes s }
+        ensures { Moves (costs acts.now) 0 self.old self.new (kept tables.old) (kept tables.new) }
+    {
+        for act in acts {
+            self.act(*act, s, tables);
+        }
+    }
+
+    fn act(&mut self, act: Act, s: Symbol, tables: &mut Tables)
+        requires holds { Holds self.old (kept tables.old) }
+        requires room { HasRoom (cost_of act) 0 self.old (kept tables.old) }
+        requires symbol { IsFit 2 self.old.bytes s }
+        ensures { Moves (cost_of act) 0 self.old self.new (kept tables.old) (kept tables.new) }
+    {
+        match act {
+            Act::Open(construct) => self.open_before(construct, s.line, tables),
+            Act::Release => self.release(tables),
+            Act::Write => self.write(s, tables),
+            Act::WriteAs(role) => self.write(in_role(role, s), tables),
+            Act::WriteOwn => self.write_own(s.line, tables),
+            Act::WriteEnd => self.write_end(s.line, tables),
+            Act::Hold => self.hold(s, tables),
+            Act::HoldName => self.name = Some(s),
+            Act::HoldLabel => self.hold_label(s, tables),
+        }
+    }
+
+    // Makes a symbol ready.
+    fn write(&mut self, s: Symbol, tables: &mut Tables)
+        requires holds { Holds self.old (kept tables.old) }
+        requires room { HasRoom (weight_of 3 s.tag) 0 self.old (kept tables.old) }
+        requires fit { IsFit 3 self.old.bytes s }
+        ensures { Moves (weight_of 3 s.tag) 0 self.old self.new (kept tables.old) (kept tables.new) }
+    {
+        ready(tables, s);
+    }
+
+    fn hold(&mut self, s: Symbol, tables: &mut Tables)
+        requires holds { Holds self.old (kept tables.old) }
+        requires room { HasRoom (weight_of 3 s.tag) 0 self.old (kept tables.old) }
+        requires fit { IsFit 3 self.old.bytes s }
+        ensures { Moves (weight_of 3 s.tag) 0 self.old self.new (kept tables.old) (kept tables.new) }
+    {
+        hold(tables, s);
+    }
+
+    // Makes all that is held ready.
+    fn release(&mut self, tables: &mut Tables)
+        requires holds { Holds self.old (kept tables.old) }
+        requires room { HasRoom 0 0 self.old (kept tables.old) }
+        ensures { Moves 0 0 self.old self.new (kept tables.old) (kept tables.new) }
+    {
+        release_all(tables, self.name);
+        self.name = None;
+    }
+
+    // Opens a construct before the first symbol that is held, or at this line.
+    fn open_before(&mut self, construct: Construct, line: u32, tables: &mut Tables)
+        requires holds { Holds self.old (kept tables.old) }
+        requires room { HasRoom 1 0 self.old (kept tables.old) }
+        requires line { line < 2 ^ 24 }
+        ensures { Moves 1 0 self.old self.new (kept tables.old) (kept tables.new) }
+    {
+        let first = first_line(tables, self.name, line);
+        self.write(symbol_of(Mark::Open(construct), first), tables);
+    }
+
+    // Writes the number of an own quantity, which is the next one.
+    fn write_own(&mut self, line: u32, tables: &mut Tables)
+        requires holds { Holds self.old (kept tables.old) }
+        requires room { HasRoom 1 0 self.old (kept tables.old) }
+        requires line { line < 2 ^ 24 }
+        ensures { Moves 1 0 self.old self.new (kept tables.old) (kept tables.new) }
+    {
+        self.write(
+            Symbol::new(Tag::OwnNumber, u64::from(self.owns), line),
+            tables,
+        );
+        self.owns = self.owns.saturating_add(1);
+    }
+
+    // Writes the end with the number of own quantities.
+    fn write_end(&mut self, line: u32, tables: &mut Tables)
+        requires holds { Holds self.old (kept tables.old) }
+        requires room { HasRoom 5 0 self.old (kept tables.old) }
+        requires line { line < 2 ^ 24 }
+        ensures { Moves 5 0 self.old self.new (kept tables.old) (kept tables.new) }
+    {
+        self.write(
+            Symbol::new(Tag::TextEnd, u64::from(self.owns), line),
+            tables,
+        );
+    }
+
+    // Holds the identifier as a label, with the symbol as its colon.
+    fn hold_label(&mut self, colon: Symbol, tables: &mut Tables)
+        requires holds { Holds self.old (kept tables.old) }
+        requires room { HasRoom 1 0 self.old (kept tables.old) }
+        requires symbol { IsFit 2 self.old.bytes colon }
+        ensures { Moves 1 0 self.old self.new (kept tables.old) (kept tables.new) }
+    {
+        if let Some(name) = self.name {
+            self.name = None;
+            self.hold(in_role(Role::Declaring, name), tables);
+            self.hold(in_role(Role::LabelColon, colon), tables);
+        }
+    }
+}
+
+// Opens the three lists.
+fn open_lists(tables: &mut Tables, bytes: u32)
+    requires cleared { kept tables.old ≡ fresh (kept tables.old).limit }
+    requires bytes { bytes ≤ (kept tables.old).limit }
+    requires limit { (kept tables.old).limit ≤ 2 ^ 19 }
+    ensures { Opens bytes (kept tables.old) (kept tables.new) }
+{
+    tables.list(STACK_WIDTH, ITEMS_EACH * bytes + FIRST_ITEMS);
+    tables.list(OUTBOX_WIDTH, WRITTEN_EACH * bytes + LAST_WRITTEN);
+    tables.list(OUTBOX_WIDTH, WRITTEN_EACH * bytes + LAST_WRITTEN);
+}
+
+// Whether the symbol is an identifier with a number that no identifier of so many bytes has.
+fn is_unnumbered(s: Symbol, bytes: u32) -> bool
+    requires letter { IsTrue (stands_in 2 s.tag) }
+    ensures { result ≡ not (is_numbered 2 bytes s) }
+{
+    s.tag == Tag::Identifier.number() && s.value >= u64::from(bytes) + STANDARD_ROOM
+}
+
+impl Pass for Pass3 {
+    type In = Coded<2>;
+
+    type Out = Coded<3>;
+
+    const GROWTH: u32 = 8;
+
+    ghost use Rattle.std.proofs.Common.{arith};
+
+    ghost GROWTH = { 8 };
+
+    ghost stands = { λ pass tables read written. Stands pass (kept tables) read written };
+
+    ghost relates = { λ pass tables read written. Relates pass (kept tables) read written };
+
+    ghost expects = { λ pass list. IsTextTwo pass.bytes list };
+
+    ghost most = { λ pass. 8 * pass.bytes + 64 };
+
+    fn take<T: Text>(
+        &mut self,
+        s: Coded<2>,
+        store: &mut T::Store,
+        out: &mut T,
+        tables: &mut Tables,
+    ) -> Result<(), PassStop> {
+        let symbol = s.symbol();
+        if self.read > self.bytes || is_unnumbered(symbol, self.bytes) {
+            let [word, _] = symbol.code();
+            return Err(PassStop::Spoilt(Odd {
+                place: u64::from(self.read),
+                word,
+            }));
+        }
+        self.step(symbol, tables);
+        flush(store, out, tables, READY)
+    }
+
+    fn end<T: Text>(
+        &mut self,
+        store: &mut T::Store,
+        out: &mut T,
+        tables: &mut Tables,
+    ) -> Result<(), PassStop> {
+        flush(store, out, tables, READY)
+    }
+
+    ghost slow = { Prim.omega arith };
+
+    ghost letters = { λ pass list h. h.letters };
+}
