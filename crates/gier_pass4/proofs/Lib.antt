@@ -1,0 +1,4 @@
+pub mod Weights
+pub mod Replaced
+pub mod Opened
+pub mod Going

@@ -1,0 +1,11 @@
+use Rattle.std.proofs.Common.{arith}
+use Rattle.gier_pass4.proofs.lists.Lists.give_own_entries.Goals as goal
+
+pub returns-clause-entries : goal.returns-clause-entries
+returns-clause-entries c = c.shift.ensures.moves.others 1 (λ e. omega arith) (λ e. omega arith)
+
+pub returns-clause-owns : goal.returns-clause-owns
+returns-clause-owns c = c.shift.ensures.moves.others 3 (λ e. omega arith) (λ e. omega arith)
+
+pub returns-clause-formals : goal.returns-clause-formals
+returns-clause-formals c = c.shift.ensures.moves.others 4 (λ e. omega arith) (λ e. omega arith)

@@ -1,0 +1,226 @@
+// Kinds of identifiers, and the list of those that are found only behind the identifiers: the text is read backward.
+//
+// The identifiers of one declaration or specification refer to a cell of the list, in which their kind stands once the words
+// before them were read. Each `;` begins a cell, since one ends each declaration and specification. The first cells hold the
+// kinds themselves, each the one with its own number.
+ghost use Rattle.std.specs.Prelude.{◌≡◌, ◌<◌, ◌≤◌, length};
+ghost use Rattle.gier_text.specs.Kept.{kept};
+ghost use Rattle.gier_text.specs.Lists.{list_at};
+ghost use Rattle.gier_pass4.specs.Kinds.{kind_number, by_value, declared_by, integer_before, boolean_before, specified_by, typed_by, worded};
+ghost use Rattle.gier_pass4.specs.Lists.{HasLists, Fills, Grows};
+
+use crate::lists::{CELLS, Lists};
+use crate::marks::Place;
+use gier_symbol::Tag;
+use gier_text::Tables;
+
+/// The kind of a declared identifier; the number of a variant is the value of its description.
+#[derive(Debug, Clone, Copy, PartialEq, Eq)]
+pub(crate) enum Kind {
+    Unknown = 0,
+    Integer = 1,
+    Boolean = 2,
+    IntegerArray = 3,
+    BooleanArray = 4,
+    Label = 5,
+    Switch = 6,
+    Procedure = 7,
+    IntegerProcedure = 8,
+    BooleanProcedure = 9,
+    IntegerByValue = 11,
+    BooleanByValue = 12,
+    IntegerByName = 13,
+    BooleanByName = 14,
+    IntegerArrayFormal = 15,
+    BooleanArrayFormal = 16,
+    LabelFormal = 17,
+    SwitchFormal = 18,
+    StringFormal = 19,
+    ProcedureFormal = 20,
+    IntegerProcedureFormal = 21,
+    BooleanProcedureFormal = 22,
+}
+
+/// How many cells hold the kinds themselves.
+pub(crate) const FIXED_CELLS: u32 = 23;
+
+impl Kind {
+    ghost use Rattle.gier_pass4.specs.declared.kinds.Kind.{Kind};
+
+    pub(crate) fn number(self) -> u64
+        ensures value { result ≡ kind_number self }
+        ensures small { result ≤ 22 }
+    {
+        self as u64
+    }
+
+    /// The kind with this number, or Unknown where none has it.
+    pub(crate) fn of(number: u64) -> Kind
+        ensures { (kind : Kind) → kind_number kind ≡ number → result ≡ kind }
+    {
+        match number {
+            1 => Kind::Integer,
+            2 => Kind::Boolean,
+            3 => Kind::IntegerArray,
+            4 => Kind::BooleanArray,
+            5 => Kind::Label,
+            6 => Kind::Switch,
+            7 => Kind::Procedure,
+            8 => Kind::IntegerProcedure,
+            9 => Kind::BooleanProcedure,
+            11 => Kind::IntegerByValue,
+            12 => Kind::BooleanByValue,
+            13 => Kind::IntegerByName,
+            14 => Kind::BooleanByName,
+            15 => Kind::IntegerArrayFormal,
+            16 => Kind::BooleanArrayFormal,
+            17 => Kind::LabelFormal,
+            18 => Kind::SwitchFormal,
+            19 => Kind::StringFormal,
+            20 => Kind::ProcedureFormal,
+            21 => Kind::IntegerProcedureFormal,
+            22 => Kind::BooleanProcedureFormal,
+            _ => Kind::Unknown,
+        }
+    }
+
+    /// The kind of a formal that stands in the value list.
+    pub(crate) fn by_value(self) -> Kind
+        ensures { result ≡ by_value self }
+    {
+        match self {
+            Kind::IntegerByName => Kind::IntegerByValue,
+            Kind::BooleanByName => Kind::BooleanByValue,
+            _ => self,
+        }
+    }
+
+    /// The kind of a procedure in whose heading these words stand that would specify a formal of this kind.
+    pub(crate) fn declared(self) -> Kind
+        ensures { result ≡ declared_by self }
+    {
+        match self {
+            Kind::IntegerProcedureFormal => Kind::IntegerProcedure,
+            Kind::BooleanProcedureFormal => Kind::BooleanProcedure,
+            _ => Kind::Procedure,
+        }
+    }
+}
+
+// The kind that `_integer` gives in a specification, where the words behind it gave this one.
+fn integer_before(behind: Kind) -> Kind
+    ensures { result ≡ integer_before behind }
+{
+    match behind {
+        Kind::IntegerArrayFormal => Kind::IntegerArrayFormal,
+        Kind::ProcedureFormal => Kind::IntegerProcedureFormal,
+        _ => Kind::IntegerByName,
+    }
+}
+
+// The kind that `_boolean` gives there.
+fn boolean_before(behind: Kind) -> Kind
+    ensures { result ≡ boolean_before behind }
+{
+    match behind {
+        Kind::IntegerArrayFormal => Kind::BooleanArrayFormal,
+        Kind::ProcedureFormal => Kind::BooleanProcedureFormal,
+        _ => Kind::BooleanByName,
+    }
+}
+
+// The kind that a word of a specification gives, where those behind it gave this one.
+fn specified(behind: Kind, word: Tag) -> Kind
+    ensures { result ≡ specified_by behind word }
+{
+    match word {
+        Tag::Integer => integer_before(behind),
+        Tag::Boolean => boolean_before(behind),
+        Tag::Array => Kind::IntegerArrayFormal,
+        Tag::Switch => Kind::SwitchFormal,
+        Tag::Procedure => Kind::ProcedureFormal,
+        Tag::String => Kind::StringFormal,
+        Tag::Label => Kind::LabelFormal,
+        _ => behind,
+    }
+}
+
+/// The kind that a word gives to the identifiers behind it, where the words between gave this one.
+pub(crate) fn with_word(place: Place, behind: Kind, word: Tag) -> Kind
+    ensures { result ≡ worded place behind word }
+{
+    match place {
+        Place::Heading => specified(behind, word),
+        Place::TypeDeclaration => typed(Kind::Integer, Kind::Boolean, behind, word),
+        _ => typed(Kind::IntegerArray, Kind::BooleanArray, behind, word),
+    }
+}
+
+// The kind that a type gives.
+fn typed(integer: Kind, boolean: Kind, behind: Kind, word: Tag) -> Kind
+    ensures { result ≡ typed_by integer boolean behind word }
+{
+    match word {
+        Tag::Integer => integer,
+        Tag::Boolean => boolean,
+        _ => behind,
+    }
+}
+
+/// Fills the first cells of the list, which must be empty.
+pub(crate) fn fill(tables: &mut Tables)
+    requires open { 6 < length (kept tables.old).lists }
+    requires width { (list_at (kept tables.old).lists 6).width ≡ 1 }
+    requires empty { (list_at (kept tables.old).lists 6).count ≡ 0 }
+    requires room { 23 ≤ (list_at (kept tables.old).lists 6).capacity }
+    ensures fills { Fills 6 (kept tables.old) (kept tables.new) }
+    ensures count { (list_at (kept tables.new).lists 6).count ≡ 23 }
+{
+    for kind in 0..FIXED_CELLS {
+        tables.push(CELLS, &[u64::from(kind)]);
+    }
+}
+
+impl Lists {
+    /// Begins a cell. Where there is no room, the last one serves again.
+    pub(crate) fn begin_cell(self, tables: &mut Tables)
+        requires { HasLists self.bytes (kept tables.old) }
+        ensures lists { HasLists self.bytes (kept tables.new) }
+        ensures grows { Grows (kept tables.old) (kept tables.new) 0 0 0 0 0 }
+    {
+        if tables.len(CELLS) >= self.most_cells() {
+            return;
+        }
+        tables.push(CELLS, &[Kind::Unknown.number()]);
+    }
+
+    /// The number of the last cell.
+    pub(crate) fn last_cell(self, tables: &Tables) -> u32
+        requires { HasLists self.bytes (kept tables.now) }
+        ensures { result < (list_at (kept tables.now).lists 6).count }
+    {
+        tables.len(CELLS) - 1
+    }
+
+    /// What stands in a cell; Unknown where there is no such cell.
+    pub(crate) fn kind_in(self, tables: &Tables, cell: u64) -> Kind
+        requires { HasLists self.bytes (kept tables.now) }
+    {
+        if cell < u64::from(tables.len(CELLS)) {
+            Kind::of(tables.word(CELLS, cell as u32, 0))
+        } else {
+            Kind::Unknown
+        }
+    }
+
+    /// Changes the last cell for a word that was read.
+    pub(crate) fn read_word(self, tables: &mut Tables, place: Place, word: Tag)
+        requires { HasLists self.bytes (kept tables.old) }
+        ensures lists { HasLists self.bytes (kept tables.new) }
+        ensures grows { Grows (kept tables.old) (kept tables.new) 0 0 0 0 0 }
+    {
+        let cell = self.last_cell(tables);
+        let kind = with_word(place, self.kind_in(tables, u64::from(cell)), word);
+        tables.set_word(CELLS, cell, 0, kind.number());
+    }
+}

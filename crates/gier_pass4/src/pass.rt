@@ -1,0 +1,152 @@
+// The pass: what it knows of the place in which it stands, and how much it has taken.
+ghost use Rattle.std.specs.Prelude.{◌≡◌, ◌≤◌, ◌+◌, ◌*◌, ◌&&◌, [], nat_le};
+ghost use Rattle.gier_text.specs.Growth.{IsLight, is_name, is_numbered, weight_of};
+ghost use Rattle.gier_text.specs.Kept.{kept, fresh as fresh_tables};
+ghost use Rattle.gier_pass4.specs.Standing.{Stands};
+
+use crate::lists::{Lists, OUT};
+use crate::marks::Place;
+use crate::owns::{Frame, Owned};
+use gier_symbol::{Alphabet, Coded, Symbol, Tag};
+use gier_text::{Pass, PassStop, Tables, Text, flush};
+use gier_word::Odd;
+
+/// Pass 4: takes text 3 backward, and writes text 4 from its end.
+///
+/// Its tables hold eight lists, and no fault.
+#[derive(Debug, Drop)]
+pub struct Pass4 {
+    pub(crate) lists: Lists,
+    // What the symbols that were taken weigh.
+    pub(crate) taken: u32,
+    pub(crate) place: Place,
+    pub(crate) frame: Frame,
+    pub(crate) owned: Owned,
+    // The fresh identifier of the own quantity whose declaring place comes next.
+    pub(crate) fresh: u64,
+    // How many bounds of the segment were read.
+    pub(crate) bounds: u32,
+    // The procedure whose heading is being read, where its identifier was read, and the first cell of that heading.
+    pub(crate) procedure: Option<u64>,
+    pub(crate) heading: u32,
+    // The lines of the end and of the last word that told a type.
+    pub(crate) end_line: u32,
+    pub(crate) type_line: u32,
+}
+
+// What a symbol of text 3 weighs.
+fn weight_of(tag: u16) -> u32
+    ensures value { result ≡ weight_of 3 tag }
+    ensures few { result ≤ 6 }
+{
+    if tag == Tag::Declaring.number() {
+        6
+    } else if tag == Tag::TextEnd.number() {
+        5
+    } else if tag == Tag::Identifier.number() || tag == Tag::Formal.number() {
+        4
+    } else {
+        1
+    }
+}
+
+// Whether the value is the number of an identifier.
+fn is_name(tag: u16) -> bool
+    ensures { result ≡ is_name tag }
+{
+    tag == Tag::Identifier.number()
+        || (Tag::Declaring.number() <= tag && tag <= Tag::Specified.number())
+        || tag == Tag::Entry.number()
+}
+
+impl Pass4 {
+    /// The pass over text 3 of a program of so many bytes. The tables must be cleared and hold no fault.
+    pub fn open(tables: &mut Tables, bytes: u32) -> Pass4
+        requires cleared { kept tables.old ≡ fresh_tables (kept tables.old).limit }
+        requires bytes { bytes ≤ (kept tables.old).limit }
+        ensures stands { Stands result (kept tables.new) [] [] }
+        ensures bytes { result.lists.bytes ≡ bytes }
+        ensures faults { (kept tables.new).faults ≡ [] }
+        ensures limit { (kept tables.new).limit ≡ (kept tables.old).limit }
+    {
+        Pass4 {
+            lists: Lists::open(tables, bytes),
+            taken: 0,
+            place: Place::Statements,
+            frame: Frame::Nothing,
+            owned: Owned::No,
+            fresh: 0,
+            bounds: 0,
+            procedure: None,
+            heading: 0,
+            end_line: 0,
+            type_line: 0,
+        }
+    }
+
+    // Whether a text with the symbol may be one that the pass is meant for.
+    fn may_take(&self, s: Symbol) -> bool
+        requires few { self.now.taken ≤ 8 * self.now.lists.bytes + 64 }
+        requires bytes { self.now.lists.bytes ≤ 524288 }
+        ensures { result ≡ (nat_le (self.now.taken + weight_of 3 s.tag) (8 * self.now.lists.bytes + 64) && is_numbered 3 self.now.lists.bytes s) }
+    {
+        let light = self.taken + weight_of(s.tag) <= self.lists.most_weight();
+        light && (!is_name(s.tag) || s.value < u64::from(self.lists.most_names()))
+    }
+}
+
+impl Pass for Pass4 {
+    type In = Coded<3>;
+
+    type Out = Coded<4>;
+
+    const GROWTH: u32 = 8;
+
+    ghost use Rattle.std.proofs.Common.{arith};
+
+    ghost GROWTH = { 8 };
+
+    ghost stands = { λ pass tables read written. Stands pass (kept tables) read written };
+
+    ghost relates = { λ pass tables read written. IsLight 4 pass.lists.bytes written };
+
+    ghost expects = { λ pass list. IsLight 3 pass.lists.bytes list };
+
+    ghost most = { λ pass. 8 * pass.lists.bytes + 64 };
+
+    fn take<T: Text>(
+        &mut self,
+        s: Coded<3>,
+        store: &mut T::Store,
+        out: &mut T,
+        tables: &mut Tables,
+    ) -> Result<(), PassStop> {
+        let symbol = s.symbol();
+        if !self.may_take(symbol) {
+            let [word, _] = symbol.code();
+            return Err(PassStop::Spoilt(Odd {
+                place: u64::from(self.taken),
+                word,
+            }));
+        }
+        self.taken += weight_of(symbol.tag);
+        self.step(symbol, tables);
+        if self.owned == Owned::Unknown {
+            return Ok(());
+        }
+        flush(store, out, tables, OUT)
+    }
+
+    fn end<T: Text>(
+        &mut self,
+        _store: &mut T::Store,
+        _out: &mut T,
+        _tables: &mut Tables,
+    ) -> Result<(), PassStop> {
+        Ok(())
+    }
+
+    ghost slow = { Prim.omega arith };
+
+    ghost letters = { λ pass list h. h.letters };
+}

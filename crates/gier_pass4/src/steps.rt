@@ -1,0 +1,181 @@
+// What the pass does with each symbol. What it does with own quantities and scopes stands in other files.
+ghost use Rattle.std.specs.Prelude.{◌≡◌, ◌≢◌, ◌<◌, ◌≤◌, ◌^◌, ◌+◌, IsTrue};
+ghost use Rattle.gier_symbol.specs.Symbols.{IsSymbol};
+ghost use Rattle.gier_symbol.specs.Tags.{number_of};
+ghost use Rattle.gier_symbol.specs.Texts.{stands_in};
+ghost use Rattle.gier_text.specs.Growth.{is_numbered, weight_of};
+ghost use Rattle.gier_text.specs.Kept.{kept};
+ghost use Rattle.gier_pass4.specs.Lists.{IsLetter};
+ghost use Rattle.gier_pass4.specs.Standing.{IsReady, IsName, Works};
+
+use crate::marks::{Mark, Place};
+use crate::owns::Frame;
+use crate::pass::Pass4;
+use gier_symbol::{Symbol, Tag};
+use gier_text::Tables;
+
+impl Pass4 {
+    /// Takes a symbol, and puts what is to be written then into the list of that.
+    pub(crate) fn step(&mut self, s: Symbol, tables: &mut Tables)
+        requires ready { IsReady self.old (kept tables.old) (weight_of 3 s.tag) }
+        requires symbol { IsSymbol s }
+        requires letter { IsTrue (stands_in 3 s.tag) }
+        requires numbered { IsTrue (is_numbered 3 self.old.lists.bytes s) }
+        ensures { Works (weight_of 3 s.tag) self.old (kept tables.old) self.new (kept tables.new) }
+    {
+        match Tag::of(s.tag) {
+            Some(Tag::OwnNumber) => self.own_number(s, tables),
+            Some(Tag::TextEnd) => self.text_end(s, tables),
+            Some(Tag::Declaring) => self.declaring(s, tables),
+            Some(Tag::Formal) => self.formal(s, tables),
+            Some(kind) => self.other(s, kind, tables),
+            None => {}
+        }
+    }
+
+    // Any symbol that is handed on, though it may change what the pass knows.
+    fn other(&mut self, s: Symbol, kind: Tag, tables: &mut Tables)
+        requires ready { IsReady self.old (kept tables.old) (weight_of 4 s.tag) }
+        requires letter { IsLetter self.old.lists.bytes s }
+        requires kind { number_of kind ≡ s.tag }
+        ensures { Works (weight_of 4 s.tag) self.old (kept tables.old) self.new (kept tables.new) }
+    {
+        match kind {
+            Tag::ShutMark => self.shut(s, tables),
+            Tag::OpenMark => self.opened(s, tables),
+            Tag::Own => self.own_word(s, tables),
+            _ => {
+                self.note(s, kind, tables);
+                self.hand_on(s, tables);
+            }
+        }
+    }
+
+    // The end of the text, which is read first; its value tells whether there are own quantities.
+    fn text_end(&mut self, s: Symbol, tables: &mut Tables)
+        requires ready { IsReady self.old (kept tables.old) 5 }
+        requires line { s.line < 2 ^ 24 }
+        ensures { Works 5 self.old (kept tables.old) self.new (kept tables.new) }
+    {
+        self.frame = if s.value == 0 {
+            Frame::Nothing
+        } else {
+            Frame::Whole
+        };
+        self.end_line = s.line;
+        let end = self.lists.plain(Tag::TextEnd, 0, s.line);
+        self.lists.put_out(tables, end);
+    }
+
+    // What the symbol tells of kinds.
+    fn note(&mut self, s: Symbol, kind: Tag, tables: &mut Tables)
+        requires ready { IsReady self.old (kept tables.old) (weight_of 4 s.tag) }
+        requires line { s.line < 2 ^ 24 }
+        ensures ready { IsReady self.new (kept tables.new) (weight_of 4 s.tag) }
+        ensures works { Works 0 self.old (kept tables.old) self.new (kept tables.new) }
+    {
+        let lists = self.lists;
+        match kind {
+            Tag::Semicolon => lists.begin_cell(tables),
+            Tag::ValueListed => lists.list_by_value(tables, s.value),
+            Tag::Specified => lists.specify(tables, s.value),
+            Tag::Integer | Tag::Boolean => {
+                self.type_line = s.line;
+                lists.read_word(tables, self.place, kind);
+            }
+            Tag::Array | Tag::Switch | Tag::Procedure | Tag::String | Tag::Label => {
+                lists.read_word(tables, self.place, kind);
+            }
+            _ => {}
+        }
+    }
+
+    // The mark behind a construct.
+    fn shut(&mut self, s: Symbol, tables: &mut Tables)
+        requires ready { IsReady self.old (kept tables.old) 1 }
+        requires letter { IsLetter self.old.lists.bytes s }
+        requires weight { weight_of 4 s.tag ≡ 1 }
+        ensures { Works 1 self.old (kept tables.old) self.new (kept tables.new) }
+    {
+        match Mark::of(s.value) {
+            Some(Mark::Program) => {
+                self.lists.begin_scope(tables);
+                self.end_program(s, tables);
+            }
+            Some(Mark::Block | Mark::Procedure | Mark::Controlled) => {
+                self.lists.begin_scope(tables);
+                self.hand_on(s, tables);
+            }
+            Some(mark) => {
+                self.begin_declaration(mark);
+                self.hand_on(s, tables);
+            }
+            None => self.hand_on(s, tables),
+        }
+    }
+
+    // The mark behind a part of a declaration.
+    fn begin_declaration(&mut self, mark: Mark)
+        ensures { self.new ≡ record self.old { place = self.new.place; bounds = self.new.bounds; owned = self.new.owned } }
+    {
+        match mark {
+            Mark::TypeDeclaration => {
+                self.place = Place::TypeDeclaration;
+                self.begin_owned();
+            }
+            Mark::Segment => {
+                self.place = Place::Segment;
+                self.bounds = 0;
+                self.begin_owned();
+            }
+            Mark::SwitchDeclaration => self.place = Place::SwitchDeclaration,
+            Mark::Bound => self.bounds = self.bounds.saturating_add(1),
+            _ => {}
+        }
+    }
+
+    // The mark before a construct.
+    fn opened(&mut self, s: Symbol, tables: &mut Tables)
+        requires ready { IsReady self.old (kept tables.old) 1 }
+        requires letter { IsLetter self.old.lists.bytes s }
+        requires weight { weight_of 4 s.tag ≡ 1 }
+        ensures { Works 1 self.old (kept tables.old) self.new (kept tables.new) }
+    {
+        match Mark::of(s.value) {
+            Some(Mark::Program) => {
+                let base = self.lists.end_scope(tables);
+                self.begin_program(s, base, tables);
+            }
+            Some(Mark::Block | Mark::Controlled) => self.end_of_scope(s, tables),
+            Some(Mark::Procedure) => {
+                self.end_of_scope(s, tables);
+                self.end_heading(tables);
+            }
+            Some(Mark::Body) => {
+                self.begin_heading(tables);
+                self.hand_on(s, tables);
+            }
+            Some(Mark::TypeDeclaration) => {
+                self.place = Place::Statements;
+                self.end_type(s, tables);
+            }
+            Some(Mark::Segment | Mark::SwitchDeclaration) => {
+                self.place = Place::Statements;
+                self.hand_on(s, tables);
+            }
+            Some(Mark::Bound) | None => self.hand_on(s, tables),
+        }
+    }
+
+    // Writes the entries of the innermost scope, and the mark before it.
+    fn end_of_scope(&mut self, s: Symbol, tables: &mut Tables)
+        requires ready { IsReady self.old (kept tables.old) 1 }
+        requires letter { IsLetter self.old.lists.bytes s }
+        requires weight { weight_of 4 s.tag ≡ 1 }
+        ensures { Works 1 self.old (kept tables.old) self.new (kept tables.new) }
+    {
+        let base = self.lists.end_scope(tables);
+        self.lists.give_entries(tables, base, s.line);
+        self.lists.put_out(tables, s);
+    }
+}
