@@ -1,0 +1,13 @@
+pub mod Lists
+pub mod Links
+pub mod Index
+pub mod Entries
+pub mod Scopes
+pub mod Faults
+pub mod Marks
+pub mod Kinds
+pub mod Places
+pub mod Letters
+pub mod Standing
+pub mod Uses
+pub mod Steps
