@@ -1,0 +1,184 @@
+// A used identifier: it is held until the symbol behind it tells how it is used.
+ghost use Rattle.std.specs.Prelude.{◌≡◌};
+ghost use Rattle.gier_symbol.specs.Symbols.{IsSymbol};
+ghost use Rattle.gier_text.specs.Kept.{kept};
+
+use crate::actuals::{Fit, Passed, name_fits};
+use crate::kind::Kind;
+use crate::open::{Open, Spot, What};
+use crate::places::{At, Held, Name};
+use crate::state::Work;
+use crate::types::ValueType;
+use crate::uses::{alone, function_type, may_be_controlled, may_be_statement, value_type};
+use gier_symbol::{Symbol, Tag};
+use gier_text::{FaultKind, Tables};
+
+// What a place is multiplied by for the level.
+const LEVEL: u64 = 1 << 24;
+
+impl Work {
+    ghost use Rattle.gier_pass6.specs.Ready.{Ready, Going};
+
+    // The description of a used identifier.
+    pub(crate) fn hold(&mut self, s: Symbol)
+        ensures bytes { self.new.bytes ≡ self.old.bytes }
+        ensures credit { self.new.credit ≡ self.old.credit }
+    {
+        self.held = Held::Name(Name {
+            kind: Kind::of(s.value),
+            number: 0,
+            count: 0,
+            spot: self.here(s),
+            at: self.at,
+        });
+    }
+
+    // Its place.
+    pub(crate) fn hold_place(&mut self, s: Symbol)
+        ensures bytes { self.new.bytes ≡ self.old.bytes }
+        ensures credit { self.new.credit ≡ self.old.credit }
+    {
+        if let Held::Name(name) = self.held {
+            self.held = Held::Name(Name {
+                number: s.value % LEVEL,
+                ..name
+            });
+        }
+    }
+
+    // Its number of dimensions or formals.
+    pub(crate) fn hold_count(&mut self, s: Symbol)
+        ensures bytes { self.new.bytes ≡ self.old.bytes }
+        ensures credit { self.new.credit ≡ self.old.credit }
+    {
+        if let Held::Name(name) = self.held {
+            self.held = Held::Name(Name {
+                count: s.value,
+                ..name
+            });
+        }
+    }
+
+    // Ends what is held as an identifier alone or as an operand.
+    pub(crate) fn settle(&mut self, tables: &mut Tables)
+        requires ready { Ready self.old (kept tables.old) }
+        ensures { Going self.old (kept tables.old) self.new (kept tables.new) }
+    {
+        let held = self.held;
+        self.held = Held::Nothing;
+        if let Held::Name(name) = held {
+            if name.at == At::Statement {
+                self.call_alone(tables, name);
+            } else {
+                self.operand_alone(tables, name);
+            }
+        }
+    }
+
+    fn call_alone(&mut self, tables: &mut Tables, name: Name)
+        requires ready { Ready self.old (kept tables.old) }
+        ensures { Going self.old (kept tables.old) self.new (kept tables.new) }
+    {
+        if !may_be_statement(name.kind, name.count) {
+            self.raise(tables, FaultKind::Kind, name.spot);
+        }
+        self.give(tables, Tag::Called, 0, name.spot.line);
+    }
+
+    fn operand_alone(&mut self, tables: &mut Tables, name: Name)
+        requires ready { Ready self.old (kept tables.old) }
+        ensures { Going self.old (kept tables.old) self.new (kept tables.new) }
+    {
+        let is = alone(name.kind, name.count);
+        self.value = is.value;
+        if is.value == ValueType::Unknown {
+            self.raise(tables, FaultKind::Kind, name.spot);
+        }
+        if is.call {
+            self.give(tables, Tag::Called, 0, name.spot.line);
+        }
+    }
+
+    // An actual that is the identifier alone; whether it fits.
+    pub(crate) fn actual_alone(&mut self, tables: &mut Tables, name: Name, fit: Fit) -> bool
+        requires ready { Ready self.old (kept tables.old) }
+        ensures { Going self.old (kept tables.old) self.new (kept tables.new) }
+    {
+        match name_fits(fit, name.kind, name.count) {
+            Passed::Fits => true,
+            Passed::Differs => false,
+            Passed::Calls => {
+                self.give(tables, Tag::Called, 0, name.spot.line);
+                true
+            }
+        }
+    }
+
+    // A `:=`.
+    pub(crate) fn becomes(&mut self, tables: &mut Tables, s: Symbol)
+        requires ready { Ready self.old (kept tables.old) }
+        requires symbol { IsSymbol s }
+        ensures { Going self.old (kept tables.old) self.new (kept tables.new) }
+    {
+        let held = self.held;
+        self.held = Held::Nothing;
+        match held {
+            Held::Nothing => {}
+            Held::Name(name) => self.name_becomes(tables, name, s),
+            Held::Element(value, spot) => self.element_becomes(tables, value, spot, s),
+        }
+        self.write(tables, s);
+    }
+
+    fn name_becomes(&mut self, tables: &mut Tables, name: Name, s: Symbol)
+        requires ready { Ready self.old (kept tables.old) }
+        requires symbol { IsSymbol s }
+        ensures { Going self.old (kept tables.old) self.new (kept tables.new) }
+    {
+        if name.at == At::Variable {
+            if !may_be_controlled(name.kind) {
+                self.raise(tables, FaultKind::Kind, name.spot);
+            }
+            return;
+        }
+        let value = self.left_type(tables, name);
+        if value == ValueType::Unknown {
+            self.raise(tables, FaultKind::Kind, name.spot);
+        }
+        self.open_one(tables, What::LeftPart, value.number(), self.here(s));
+    }
+
+    fn element_becomes(&mut self, tables: &mut Tables, value: ValueType, spot: Spot, s: Symbol)
+        requires ready { Ready self.old (kept tables.old) }
+        requires symbol { IsSymbol s }
+        ensures { Going self.old (kept tables.old) self.new (kept tables.new) }
+    {
+        if value == ValueType::Label {
+            self.raise(tables, FaultKind::Kind, spot);
+            self.open_one(
+                tables,
+                What::LeftPart,
+                ValueType::Unknown.number(),
+                self.here(s),
+            );
+            return;
+        }
+        self.open_one(tables, What::LeftPart, value.number(), self.here(s));
+    }
+
+    // The type of an identifier alone as a left part: a variable, or a function within its own declaration.
+    fn left_type(&self, tables: &Tables, name: Name) -> ValueType
+        requires ready { Ready self.now (kept tables.now) }
+    {
+        match name.kind {
+            Kind::IntegerProcedure | Kind::BooleanProcedure => {
+                if self.is_open(tables, name.number) {
+                    function_type(name.kind)
+                } else {
+                    ValueType::Unknown
+                }
+            }
+            _ => value_type(name.kind),
+        }
+    }
+}

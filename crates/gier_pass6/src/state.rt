@@ -1,0 +1,140 @@
+// The state of the pass, and the few things that it does to its tables: write, add a fault, open and close.
+ghost use Rattle.std.specs.Prelude.{◌≡◌, ◌≤◌, ◌+◌, ◌*◌, IsTrue};
+ghost use Rattle.gier_symbol.specs.Symbols.{IsSymbol};
+ghost use Rattle.gier_text.specs.Growth.{is_numbered, is_name};
+ghost use Rattle.gier_text.specs.Kept.{kept};
+ghost use Rattle.gier_pass6.specs.Ready.{IsWritable};
+
+use crate::open::{LAST_WORD, Spot};
+use crate::places::{At, Held};
+use crate::types::ValueType;
+use gier_symbol::{Symbol, Tag, stands_in};
+use gier_text::{Fault, FaultKind, Tables, put};
+use std::cmp;
+
+/// The list of symbols that wait to be written.
+pub(crate) const OUTBOX: u8 = 0;
+
+const LAST_LINE: u32 = (1 << 24) - 1;
+
+/// What the pass keeps beside the weight of what it has taken.
+#[derive(Debug, Drop)]
+pub(crate) struct Work {
+    // How many bytes the program has.
+    pub(crate) bytes: u32,
+    // How much of the weight that was taken may still be written.
+    pub(crate) credit: u32,
+    // How many symbols were taken, and the line of the last one.
+    pub(crate) read: u32,
+    pub(crate) line: u32,
+    // The type of the operand that ended last.
+    pub(crate) value: ValueType,
+    pub(crate) held: Held,
+    pub(crate) at: At,
+    // The identifier of an entry that has no description yet.
+    pub(crate) entry: Option<u64>,
+    // How many formals the procedure's head has so far.
+    pub(crate) formals: u32,
+}
+
+/// The greatest weight of text 5 of a program of so many bytes, which is also the room of most lists.
+pub(crate) fn room(bytes: u32) -> u32
+    requires { bytes ≤ 524288 }
+    ensures { result ≡ 8 * bytes + 64 }
+{
+    8 * bytes + 64
+}
+
+/// The room of the list of numbered places: an entry and its description weigh 2.
+pub(crate) fn numbered_room(bytes: u32) -> u32
+    requires { bytes ≤ 524288 }
+    ensures { result ≡ 4 * bytes + 32 }
+{
+    4 * bytes + 32
+}
+
+// Names in text 6 have numbers below the bytes and this, and own quantities from this on.
+const STANDARD: u64 = 64;
+
+const OWN: u64 = 1 << 32;
+
+// Whether the value of an identifier is the number of one.
+fn is_numbered(bytes: u32, s: Symbol) -> bool
+    ensures { result ≡ is_numbered 6 bytes s }
+{
+    let bytes = u64::from(bytes);
+    !is_name(s.tag) || s.value < bytes + STANDARD || (OWN <= s.value && s.value < OWN + bytes + 1)
+}
+
+fn is_name(tag: u16) -> bool
+    ensures { result ≡ is_name tag }
+{
+    tag == Tag::Identifier.number()
+        || (Tag::Declaring.number() <= tag && tag <= Tag::Specified.number())
+        || tag == Tag::Entry.number()
+}
+
+// Whether a symbol is one of text 6.
+fn is_writable(bytes: u32, s: Symbol) -> bool
+    requires symbol { IsSymbol s }
+    ensures { IsTrue result → IsWritable bytes s }
+{
+    stands_in(6, s.tag) && is_numbered(bytes, s)
+}
+
+impl Work {
+    ghost use Rattle.gier_pass6.specs.Ready.{Ready, Going};
+
+    // The place of a symbol that is being taken.
+    pub(crate) fn here(&self, s: Symbol) -> Spot {
+        Spot {
+            position: self.read,
+            line: s.line,
+        }
+    }
+
+    // The place of the symbol before it.
+    pub(crate) fn before(&self) -> Spot {
+        Spot {
+            position: self.read.saturating_sub(1),
+            line: self.line,
+        }
+    }
+
+    // Adds a fault. A program has no more faults than bytes and an end.
+    pub(crate) fn raise(&self, tables: &mut Tables, kind: FaultKind, spot: Spot)
+        requires ready { Ready self.now (kept tables.old) }
+        ensures { Going self.now (kept tables.old) self.now (kept tables.new) }
+    {
+        if tables.faults() <= self.bytes {
+            tables.add_fault(Fault {
+                position: spot.position,
+                line: spot.line,
+                kind,
+            });
+        }
+    }
+
+    // Writes a symbol.
+    pub(crate) fn write(&mut self, tables: &mut Tables, s: Symbol)
+        requires ready { Ready self.old (kept tables.old) }
+        requires symbol { IsSymbol s }
+        ensures { Going self.old (kept tables.old) self.new (kept tables.new) }
+    {
+        if self.credit > 0 && is_writable(self.bytes, s) {
+            self.credit -= 1;
+            put(tables, OUTBOX, s);
+        }
+    }
+
+    // Writes a symbol that stands behind operands.
+    pub(crate) fn give(&mut self, tables: &mut Tables, tag: Tag, value: u64, line: u32)
+        requires ready { Ready self.old (kept tables.old) }
+        ensures { Going self.old (kept tables.old) self.new (kept tables.new) }
+    {
+        self.write(
+            tables,
+            Symbol::new(tag, cmp::min(value, LAST_WORD), cmp::min(line, LAST_LINE)),
+        );
+    }
+}
