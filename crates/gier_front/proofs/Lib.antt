@@ -1,0 +1,4 @@
+pub mod Told
+pub mod Blank
+pub mod Prints
+pub mod Errors

@@ -1,0 +1,19 @@
+use Rattle.std.proofs.Common.{◌∙◌, ap, subst, sym, List}
+use Rattle.gier_symbol.specs.declared.symbol.Symbol.{Symbol}
+use Rattle.gier_text.specs.View.{ordered, View, Appends}
+use Rattle.gier_front.proofs.Told.{handed, written_all, on_ok}
+use Rattle.gier_front.proofs.stage.run_stage.Goals as goal
+
+pub returns-in-Ok-drive-clause-gives : goal.returns-in-Ok-drive-clause-gives
+returns-in-Ok-drive-clause-gives g c = λ told blank.
+    let view = g.T.Text.view in
+    let same = g.met.P.Stage.same c.drive.new.pass c.start-pass.result c.drive.ensures.most ∙ c.start-pass.ensures.bytes in
+    let out_kept = c.rewind.ensures.kept c.args.output.now c.requires.apart in
+    let drove = c.in-Ok-drive.ensures.relates in
+    let hand = handed (g.P.Stage.wants c.args.bytes) (view c.args.input.now c.args.store.now).held c.way.result (view c.rewind.new.self c.rewind.new.store).left drove.0 told c.in-Ok.ensures.rewound.left drove.2.0 in
+    let wanted = subst (λ n. g.P.Stage.wants n hand.0) (sym same) hand.1 in
+    let ordered_is = hand.2 ∙ ap (λ way. ordered way hand.0) c.way.ensures in
+    let related = subst (λ (read : List Symbol). g.P.Pass.relates c.drive.new.pass c.drive.new.tables read drove.1) ordered_is drove.4 in
+    let gives = subst (λ n. g.P.Stage.gives n drove.1) same (g.met.P.Stage.given c.drive.new.pass c.drive.new.tables hand.0 drove.1 wanted related) in
+    let appended = subst (λ (v : View). Appends v.held drove.1 (view c.drive.new.output c.drive.new.store).held) out_kept drove.3.held in
+    on_ok c.no_faults.result _ (written_all (g.P.Stage.gives c.args.bytes) (view c.args.output.now c.args.store.now).held (view c.drive.new.output c.drive.new.store).held drove.1 blank appended gives)

@@ -1,0 +1,6 @@
+pub mod Areas
+pub mod Stops
+pub mod Stages
+pub mod Handed
+pub mod Fronted
+pub mod Printed
