@@ -5,12 +5,16 @@
 mod arguments;
 
 use arguments::read_arguments;
+use gier_drum::MemDrum;
 use gier_io::{StdSink, StdSource};
 use gier_job::{Status, gier, read_words, status_text};
 use std::io;
 use std::io::{BufReader, BufWriter, Write};
 use std::process::ExitCode;
 use std::rt::Env;
+
+// The drum keeps no journal.
+const NO_JOURNAL: usize = 0;
 
 const VERSION: &str = "gier 0.1.0\n";
 
@@ -36,8 +40,8 @@ words after `run`, in any order and each at most once:
 exit status: 0 done, 1 errors in the program, 2 a wrong word, 3 alarm, 4 out of steps,
              5 tape fault, 6 printer fault, 7 drum fault, 8 want of memory, 9 spoilt drum
 
-So far only programs of outcr and of outinteger with sums of numbers are run; every
-other program is answered `line 1 not built`.
+So far `run` knows only programs of outcr and of outinteger with sums of numbers, and
+answers every other one with `line 1 not built`; `check` knows the whole language.
 ";
 
 fn main(rt: HostRuntime) -> ExitCode {
@@ -82,9 +86,12 @@ fn run_tape<R: Input + Print + AllocGlobal>(rt: &R, words: &[String]) -> Status 
     let Ok(writer) = BufWriter::new(rt.alloc(), io::writer(rt)) else {
         return Status::Memory;
     };
+    let Ok(mut drum) = MemDrum::open(rt.alloc(), NO_JOURNAL) else {
+        return Status::Memory;
+    };
     let mut tape = StdSource::of(reader);
     let mut printer = StdSink::of(writer);
-    let status = gier(rt.alloc(), words, &mut tape, &mut printer);
+    let status = gier(rt.alloc(), words, &mut tape, &mut printer, &mut drum);
     match printer.into_inner().flush() {
         Err(_) if status.number() < Status::Tape.number() => Status::Printer,
         _ => status,

@@ -1,9 +1,8 @@
--- Printing in pieces: what was put before and what is put now are put one after the other.
+-- What a run of sums has printed, piece by piece.
 use Rattle.std.proofs.Common.{◌≡◌, ◌≤◌, ◌+◌, ℕ, List, [], ◌++◌, Option, None, Some, length, take, append_assoc, append-nil, zero-add, ◌∷◌, drop, Bool, true, false, codes, refl, ap, sym, ◌∙◌, subst, arith}
 use Rattle.gier_io.specs.Device.{Puts, PutsPart}
 use Rattle.gier_job.specs.Sums.{Printed, printed, printed_from, printed_then, behind, bytes_of, sum_after, event_of, next_of}
-use Rattle.std.proofs.Math.Seq.{take-append_seam, take-append-add}
-use Rattle.std.proofs.lemmas.List.{take-append-drop}
+use Rattle.gier_front.proofs.Prints.{puts_more, part_more, part_first, part_second}
 use Rattle.gier_job.specs.Answer.{run_answer, tail}
 use Rattle.gier_job.specs.declared.sums.Place.{Place}
 
@@ -13,36 +12,6 @@ pub record IsRunning (text : List ℕ) (place : Place) (sum : ℕ) (rest : List 
   pub put : Puts old done now
   pub whole : printed text ≡ behind done (printed_from place sum rest)
   pub later : faults_old ≤ faults_now
-
-pub puts_none : (a : Option (List ℕ)) → Puts a [] a
-puts_none None = refl
-puts_none (Some held) = ap Some (sym (append-nil held))
-
-puts_none_kept : (b c : Option (List ℕ)) (ys : List ℕ) → b ≡ None → Puts b ys c → c ≡ None
-puts_none_kept b c ys none then = subst (λ (m : Option (List ℕ)). Puts m ys c) none then
-
--- a prefix of the second piece makes a prefix of all three
-taken_join : (xs ys zs : List ℕ) (n : ℕ) → xs ++ take n ys ≡ take (length xs + length (take n ys)) (xs ++ (ys ++ zs))
-taken_join xs ys zs n =
-    let split : ys ++ zs ≡ take n ys ++ (drop n ys ++ zs) = ap (λ (l : List ℕ). l ++ zs) (sym (take-append-drop n ys)) ∙ append_assoc (take n ys) (drop n ys) zs in
-    let front : take (length (take n ys)) (ys ++ zs) ≡ take n ys = ap (take (length (take n ys))) split ∙ take-append_seam (take n ys) (drop n ys ++ zs) in
-    sym (take-append-add xs (ys ++ zs) (length (take n ys)) ∙ ap (λ (l : List ℕ). xs ++ l) front)
-
-parts_join : (held xs ys zs : List ℕ) (c : Option (List ℕ)) → PutsPart (Some (held ++ xs)) ys c → PutsPart (Some held) (xs ++ (ys ++ zs)) c
-parts_join held xs ys zs c part =
-    (length xs + length (take part.0 ys), part.1 ∙ ap Some (append_assoc held xs (take part.0 ys)) ∙ ap (λ (l : List ℕ). Some (held ++ l)) (taken_join xs ys zs part.0))
-
-pub puts_more : (a b c : Option (List ℕ)) (xs ys : List ℕ) → Puts a xs b → Puts b ys c → Puts a (xs ++ ys) c
-puts_more None b c xs ys first then = puts_none_kept b c ys first then
-puts_more (Some held) b c xs ys first then =
-    let second : Puts (Some (held ++ xs)) ys c = subst (λ (m : Option (List ℕ)). Puts m ys c) first then in
-    second ∙ ap Some (append_assoc held xs ys)
-
-pub part_more : (a b c : Option (List ℕ)) (xs ys zs : List ℕ) → Puts a xs b → PutsPart b ys c → PutsPart a (xs ++ (ys ++ zs)) c
-part_more None b c xs ys zs first then = subst (λ (m : Option (List ℕ)). PutsPart m ys c) first then
-part_more (Some held) b c xs ys zs first then =
-    let second : PutsPart (Some (held ++ xs)) ys c = subst (λ (m : Option (List ℕ)). PutsPart m ys c) first then in
-    parts_join held xs ys zs c second
 
 -- the text that is left, byte by byte
 step_is : (text : List ℕ) (place : Place) (sum : ℕ) (left : List ℕ) (byte : ℕ) (rest : List ℕ) → left ≡ byte ∷ rest → printed_from place sum left ≡ behind (bytes_of (event_of place byte) sum) (printed_then (sum_after (event_of place byte) sum) (λ n. printed_from (next_of place byte) n rest))
@@ -78,15 +47,6 @@ pub running_part : (text : List ℕ) (place : Place) (sum : ℕ) (left : List �
 running_part text place sum left byte rest old mid new f0 f1 so_far e put =
     let bytes : (printed text).bytes ≡ so_far.done ++ (bytes_of (event_of place byte) sum ++ (printed_then (sum_after (event_of place byte) sum) (λ n. printed_from (next_of place byte) n rest)).bytes) = ap (λ (p : Printed). p.bytes) so_far.whole ∙ ap (λ (p : Printed). so_far.done ++ p.bytes) (step_is text place sum left byte rest e) in
     rw bytes (part_more old mid new so_far.done (bytes_of (event_of place byte) sum) (printed_then (sum_after (event_of place byte) sum) (λ n. printed_from (next_of place byte) n rest)).bytes so_far.put put)
-
--- a part of the first piece is a part of both
-pub part_first : (a b : Option (List ℕ)) (xs ys : List ℕ) → PutsPart a xs b → PutsPart a (xs ++ ys) b
-part_first None b xs ys part = part
-part_first (Some held) b xs ys part =
-    (length (take part.0 xs), part.1 ∙ ap (λ (l : List ℕ). Some (held ++ l)) (taken_join [] xs ys part.0 ∙ ap (λ (n : ℕ). take n (xs ++ ys)) (zero-add (length (take part.0 xs)))))
-
-pub part_second : (a b c : Option (List ℕ)) (xs ys : List ℕ) → Puts a xs b → PutsPart b ys c → PutsPart a (xs ++ ys) c
-part_second a b c xs ys first then = rw (← append-nil ys) (part_more a b c xs ys [] first then)
 
 -- what is out after a failure in a run is a part of what the run answers
 pub part_of_run : (old new : Option (List ℕ)) (run : Printed) → PutsPart old run.bytes new → PutsPart old (run_answer run).bytes new

@@ -1,5 +1,5 @@
 -- Which lists of words are a command, and which is the first wrong word of all others.
-use Rattle.std.specs.Prelude.{◌≡◌, ◌≢◌, ◌≤◌, ◌-◌, ◌⊎◌, ℕ, Bool, true, false, List, [], ◌∷◌, None, Some, take, length, codes, All, ⊤}
+use Rattle.std.specs.Prelude.{◌≡◌, ◌≢◌, ◌≤◌, ◌-◌, ◌⊎◌, ℕ, Bool, true, false, List, [], ◌∷◌, Option, None, Some, take, length, codes, All, ⊤}
 use Rattle.std.specs.List.{AllZip}
 use Rattle.gier_job.specs.Words.{Makes}
 use Rattle.gier_job.specs.declared.words.Key.{Key}
@@ -24,6 +24,11 @@ NotGiven key settings = All (λ s. s.key ≢ key) settings
 abbrev pub NoKeyTwice : List Setting → Type 0
 NoKeyTwice [] = ⊤
 NoKeyTwice (s ∷ settings) = NotGiven s.key settings × NoKeyTwice settings
+
+-- a sample has at most 2000 calls
+abbrev pub IsFew : Option ℕ → Type 0
+IsFew None = ⊤
+IsFew (Some calls) = calls ≤ 2000
 
 -- what holds where no word says otherwise
 abbrev pub plain_command : Bool → Command

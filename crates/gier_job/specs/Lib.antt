@@ -4,3 +4,4 @@ pub mod Sums
 pub mod Tape
 pub mod Status
 pub mod Answer
+pub mod Checked

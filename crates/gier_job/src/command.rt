@@ -4,7 +4,7 @@ ghost use Rattle.std.specs.String.{string_bytes};
 ghost use Rattle.gier_job.specs.Words.{IsPermitted, Makes};
 ghost use Rattle.gier_job.specs.declared.command.Command.{Command};
 ghost use Rattle.gier_job.specs.declared.words.Setting.{Setting};
-ghost use Rattle.gier_job.specs.Command.{MayStand, NotGiven, plain_command, with_key, with_settings, IsCommand, IsFirstWrong, mode_word};
+ghost use Rattle.gier_job.specs.Command.{MayStand, NotGiven, plain_command, with_key, with_settings, IsFew, IsCommand, IsFirstWrong, mode_word};
 
 use crate::words::{Key, Setting, read_setting};
 use arrayvec::ArrayVec;
@@ -51,6 +51,7 @@ const KEYS: usize = 8;
 pub fn read_words(words: &[String]) -> Result<Command, u32>
     ensures command { IfOk result (λ command. IsCommand (map string_bytes words.now) command) }
     ensures only { IfOk result (λ command. (other : Command) → IsCommand (map string_bytes words.now) other → other ≡ command) }
+    ensures few { IfOk result (λ command. IsFew command.sample) }
     ensures wrong { IfErr result (λ number. IsFirstWrong (map string_bytes words.now) number) }
 {
     let Some((first, rest)) = words.split_first() else {
@@ -115,7 +116,8 @@ fn is_free(given: &[Setting], key: Key) -> bool
 
 fn command_of(check: bool, settings: &[Setting]) -> Command
     requires { All (λ s. IsPermitted s.key s.value) settings.now }
-    ensures { result ≡ with_settings (plain_command check) settings.now }
+    ensures made { result ≡ with_settings (plain_command check) settings.now }
+    ensures few { IsFew result.sample }
 {
     let mut command = plain(check);
     for setting in settings {
@@ -144,7 +146,8 @@ fn plain(check: bool) -> Command
 
 fn set(command: &mut Command, setting: Setting)
     requires { IsPermitted setting.key setting.value }
-    ensures { command.new ≡ with_key command.old setting.key setting.value }
+    ensures made { command.new ≡ with_key command.old setting.key setting.value }
+    ensures few { IsFew command.old.sample → IsFew command.new.sample }
 {
     match setting.key {
         Key::Places => command.settings.places = setting.value as u8,

@@ -1,28 +1,15 @@
-// Prints in pieces: where one of them fails, what is out is a prefix of all.
-ghost use Rattle.std.specs.Prelude.{◌≡◌, ◌++◌, OnOk, OnErr};
+// Says which word of the command line is wrong.
+ghost use Rattle.std.specs.Prelude.{OnOk, OnErr};
 ghost use Rattle.gier_word.specs.Cause.{HasCause};
 ghost use Rattle.gier_io.specs.Device.{Puts, PutsPart};
 ghost use Rattle.gier_job.specs.Answer.{wrong_word_tail};
 
+use gier_front::put_both;
 use gier_io::Sink;
 use gier_word::Failed;
 use itoa::Buffer;
 
-/// Puts both, one after the other.
-#[tactic(auto, using(crate::proofs::Prints::puts_more, crate::proofs::Prints::part_first, crate::proofs::Prints::part_second))]
-pub fn put_both<K: Sink>(first: &[u8], second: &[u8], out: &mut K) -> Result<(), Failed>
-    ensures put { OnOk result (Puts (K.holds out.old) (first.now ++ second.now) (K.holds out.new)) }
-    ensures part { OnErr result (PutsPart (K.holds out.old) (first.now ++ second.now) (K.holds out.new)) }
-    ensures cause { HasCause (K.faults out.old) (K.faults out.new) result }
-{
-    match out.put(first) {
-        Ok(()) => out.put(second),
-        Err(failed) => Err(failed),
-    }
-}
-
 /// Says which word is wrong.
-#[tactic(auto, using(crate::proofs::Prints::puts_more, crate::proofs::Prints::part_first, crate::proofs::Prints::part_second))]
 pub fn put_wrong_word<K: Sink>(number: u32, out: &mut K) -> Result<(), Failed>
     ensures put { OnOk result (Puts (K.holds out.old) (wrong_word_tail number) (K.holds out.new)) }
     ensures part { OnErr result (PutsPart (K.holds out.old) (wrong_word_tail number) (K.holds out.new)) }

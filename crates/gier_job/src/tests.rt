@@ -1,6 +1,7 @@
 // The top call over devices in memory, the defaults of the words, and what no clause says of the crates below:
 // the texts of the refusals, and operations with values worked out by hand.
 use crate::{Command, Settings, Status, gier, read_words};
+use gier_drum::{FailingDrum, ForgetfulDrum, MemDrum};
 use gier_io::{FailingSource, MemSink, MemSource};
 use gier_word::{Failed, Int40, NoMemory, Spoil, Word40};
 use std::alloc::{AllocError, Global};
@@ -20,7 +21,14 @@ fn a_full_printer_holds_what_fits(rt: HostRuntime) -> Result<(), Fail> {
     let text = Vec::from_slice(rt.alloc(), b"_begin outinteger(549755813887) _end")?;
     let mut tape = MemSource::of(text);
     let mut printer = MemSink::open(rt.alloc(), 2)?;
-    let status = gier(rt.alloc(), words.as_slice(), &mut tape, &mut printer);
+    let mut drum = MemDrum::open(rt.alloc(), 0)?;
+    let status = gier(
+        rt.alloc(),
+        words.as_slice(),
+        &mut tape,
+        &mut printer,
+        &mut drum,
+    );
     assert_eq!(rt; status, Status::Printer);
     assert!(rt; printer.bytes() == b"54".as_slice());
     Ok(())
@@ -32,8 +40,62 @@ fn a_failing_tape_prints_nothing(rt: HostRuntime) -> Result<(), Fail> {
     let text = Vec::from_slice(rt.alloc(), b"_begin outcr _end")?;
     let mut tape = FailingSource::of(text, Vec::from_slice(rt.alloc(), &[0])?);
     let mut printer = MemSink::open(rt.alloc(), 100)?;
-    let status = gier(rt.alloc(), words.as_slice(), &mut tape, &mut printer);
+    let mut drum = MemDrum::open(rt.alloc(), 0)?;
+    let status = gier(
+        rt.alloc(),
+        words.as_slice(),
+        &mut tape,
+        &mut printer,
+        &mut drum,
+    );
     assert_eq!(rt; status, Status::Tape);
+    assert!(rt; printer.bytes().is_empty());
+    Ok(())
+}
+
+// The sample is checked in place of the tape, of which nothing is taken.
+#[test]
+fn a_sample_is_checked(rt: HostRuntime) -> Result<(), Fail> {
+    let words = words(rt.alloc(), &["check", "sample=2000"])?;
+    let text = Vec::from_slice(rt.alloc(), b"rest")?;
+    let mut tape = FailingSource::of(text, Vec::from_slice(rt.alloc(), &[0])?);
+    let mut printer = MemSink::open(rt.alloc(), 0)?;
+    let mut drum = MemDrum::open(rt.alloc(), 0)?;
+    let status = gier(
+        rt.alloc(),
+        words.as_slice(),
+        &mut tape,
+        &mut printer,
+        &mut drum,
+    );
+    assert_eq!(rt; status, Status::Done);
+    Ok(())
+}
+
+// A drum without room refuses before anything is taken; one that forgets is found out.
+#[test]
+fn failing_drums_have_their_statuses(rt: HostRuntime) -> Result<(), Fail> {
+    let words = words(rt.alloc(), &["check"])?;
+    let mut tape = MemSource::of(Vec::from_slice(rt.alloc(), b"_begin _end")?);
+    let mut printer = MemSink::open(rt.alloc(), 100)?;
+    let mut failing = FailingDrum::open(rt.alloc(), 0, Vec::from_slice(rt.alloc(), &[0])?)?;
+    let status = gier(
+        rt.alloc(),
+        words.as_slice(),
+        &mut tape,
+        &mut printer,
+        &mut failing,
+    );
+    assert_eq!(rt; status, Status::Drum);
+    let mut forgetful = ForgetfulDrum::open(rt.alloc(), 0)?;
+    let status = gier(
+        rt.alloc(),
+        words.as_slice(),
+        &mut tape,
+        &mut printer,
+        &mut forgetful,
+    );
+    assert!(rt; matches!(status, Status::Spoilt(_)));
     assert!(rt; printer.bytes().is_empty());
     Ok(())
 }

@@ -1,6 +1,6 @@
 use Rattle.std.proofs.Common.{◌≡◌, ◌++◌, codes, decimal, ◌∙◌}
 use Rattle.std.proofs.lemmas.Result.{on_err_weaker}
-use Rattle.gier_job.proofs.Prints.{part_first, part_second}
+use Rattle.gier_front.proofs.Prints.{part_first, part_second}
 use Rattle.gier_job.proofs.printing.put_wrong_word.Goals as goal
 
 pub returns-in-Ok-clause-part : goal.returns-in-Ok-clause-part
