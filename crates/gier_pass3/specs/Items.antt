@@ -1,6 +1,6 @@
 -- The items: their numbers, the words that stand for them on the stack, and what they may still write.
-use Rattle.gier_pass3.specs.declared.item.Construct.TheVariants.{Program as CProgram, Block as CBlock, Compound as CCompound, TypeDeclaration as CTypeDeclaration, ArraySegment as CArraySegment, SwitchDeclaration as CSwitchDeclaration, ProcedureDeclaration as CProcedureDeclaration, ProcedureBody as CProcedureBody, ForStatement as CForStatement, ControlledStatement as CControlledStatement, ConditionalStatement as CConditionalStatement, Actual as CActual, Subscript as CSubscript, Bound as CBound, SwitchElement as CSwitchElement, ForElement as CForElement, GoTo as CGoTo, ConditionalExpression as CConditionalExpression}
-use Rattle.gier_pass3.specs.declared.item.Construct.{Construct}
+use Rattle.gier_tree.specs.declared.construct.Construct.TheVariants.{Program as CProgram, Block as CBlock, Compound as CCompound, TypeDeclaration as CTypeDeclaration, ArraySegment as CArraySegment, SwitchDeclaration as CSwitchDeclaration, ProcedureDeclaration as CProcedureDeclaration, ProcedureBody as CProcedureBody, ForStatement as CForStatement, ControlledStatement as CControlledStatement, ConditionalStatement as CConditionalStatement, Actual as CActual, Subscript as CSubscript, Bound as CBound, SwitchElement as CSwitchElement, ForElement as CForElement, GoTo as CGoTo, ConditionalExpression as CConditionalExpression}
+use Rattle.gier_tree.specs.Constructs.{construct_number}
 use Rattle.gier_pass3.specs.declared.item.Mark.{Mark}
 use Rattle.gier_pass3.specs.declared.item.Mark.TheVariants.{Open, Shut}
 use Rattle.gier_symbol.specs.declared.symbol.Symbol.{Symbol}
@@ -10,27 +10,6 @@ use Rattle.std.specs.Prelude.{Bool, true, false, Option, None, Some, ◌+◌, �
 use Rattle.gier_text.specs.Lists.{TableList, word_at}
 use Rattle.gier_pass3.specs.declared.item.Item.{Item}
 use Rattle.gier_pass3.specs.declared.item.Item.TheVariants.{OpenProgram, OpenArraySegment, OpenProcedureBody, OpenControlledStatement, OpenActual, OpenSubscript, OpenBound, OpenSwitchElement, OpenForElement, ShutProgram, ShutBlock, ShutCompound, ShutTypeDeclaration, ShutArraySegment, ShutSwitchDeclaration, ShutProcedureDeclaration, ShutProcedureBody, ShutForStatement, ShutControlledStatement, ShutConditionalStatement, ShutActual, ShutSubscript, ShutBound, ShutSwitchElement, ShutForElement, ShutGoTo, ShutConditionalExpression, AfterOwnType, Program, ProgramColon, TextEnd, AfterBegin, BlockTail, CompoundTail, FirstDeclared, Declared, MoreDeclarations, OwnType, OwnName, MoreOwnNames, FixedBounds, FixedColon, MorePairs, MoreFixedSegments, AfterType, Name, MoreNames, Bounds, BoundColon, BoundTail, MoreSegments, SwitchBecomes, MoreSwitchElements, MayFormals, Formal, FormalTail, Heading, MayValues, ValueName, MoreValueNames, Semicolon, MoreSpecifications, MaySpecifier, SpecifiedName, MoreSpecifiedNames, Statement, AfterName, Branch, AfterBranchName, MayElse, ForVariable, ForBecomes, MayStep, ForTail, Until, Becomes, Right, AfterRightName, AfterRightElement, Expression, Simple, Then, Else, MayNot, MaySign, Number, Primary, MayPower, MayTimes, MaySum, MayRelation, MayAnd, MayOr, MayImplication, MayEquivalence, MayPart, SubscriptTail, Actual, StringRest, ActualTail, RightParenthesis}
-
--- the value of a construct's marks
-abbrev pub construct_number : Construct → ℕ
-construct_number CProgram = 1
-construct_number CBlock = 2
-construct_number CCompound = 3
-construct_number CTypeDeclaration = 4
-construct_number CArraySegment = 5
-construct_number CSwitchDeclaration = 6
-construct_number CProcedureDeclaration = 7
-construct_number CProcedureBody = 8
-construct_number CForStatement = 9
-construct_number CControlledStatement = 10
-construct_number CConditionalStatement = 11
-construct_number CActual = 12
-construct_number CSubscript = 13
-construct_number CBound = 14
-construct_number CSwitchElement = 15
-construct_number CForElement = 16
-construct_number CGoTo = 17
-construct_number CConditionalExpression = 18
 
 -- the place of an item in the list of items
 abbrev pub number_of : Item → ℕ

@@ -1,40 +1,7 @@
 // What may be wanted next of a program. The stack of the pass holds these, and each is a word there.
-ghost use Rattle.std.specs.Prelude.{◌≡◌, ◌<◌, ◌^◌, IfSome};
+ghost use Rattle.std.specs.Prelude.{◌≡◌, IfSome};
 
-/// The constructs that have marks. The number of a variant is the value of its marks.
-#[derive(Debug, Clone, Copy, PartialEq, Eq)]
-pub enum Construct {
-    Program = 1,
-    Block = 2,
-    Compound = 3,
-    TypeDeclaration = 4,
-    ArraySegment = 5,
-    SwitchDeclaration = 6,
-    ProcedureDeclaration = 7,
-    ProcedureBody = 8,
-    ForStatement = 9,
-    ControlledStatement = 10,
-    ConditionalStatement = 11,
-    Actual = 12,
-    Subscript = 13,
-    Bound = 14,
-    SwitchElement = 15,
-    ForElement = 16,
-    GoTo = 17,
-    ConditionalExpression = 18,
-}
-
-impl Construct {
-    ghost use Rattle.gier_pass3.specs.Items.{construct_number};
-
-    /// The value of the construct's marks.
-    pub fn number(self) -> u64
-        ensures value { result ≡ construct_number self }
-        ensures small { result < 2 ^ 40 }
-    {
-        self as u64
-    }
-}
+use gier_tree::Construct;
 
 /// What is wanted next.
 ///

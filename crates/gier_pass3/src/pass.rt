@@ -11,12 +11,13 @@ ghost use Rattle.gier_pass3.specs.Lists.{depth, ready_by};
 ghost use Rattle.gier_pass3.specs.Standing.{IsFit, Holds, Moves, Meets, load, IsReady, Steps, Stands, Relates, IsTextTwo, HasRoom, Opens, faults_of};
 
 use crate::held::{READY, first_line, hold, ready, release_all};
-use crate::item::{Construct, Item, Mark};
+use crate::item::{Item, Mark};
 use crate::rule::{Act, Role, Rule};
 use crate::stack::{STACK_WIDTH, pop, push, push_wanted};
 use crate::table::{Doing, decide};
 use gier_symbol::{Alphabet, Coded, Symbol, Tag};
 use gier_text::{Fault, FaultKind, OUTBOX_WIDTH, Pass, PassStop, Tables, Text, flush};
+use gier_tree::Construct;
 use gier_word::Odd;
 
 // At most so many items are wanted for each symbol, and so many symbols written.

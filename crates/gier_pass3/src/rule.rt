@@ -1,8 +1,9 @@
 // The rules: what is written when an item takes a symbol, and what is wanted then.
 ghost use Rattle.std.specs.Prelude.{◌≡◌};
 
-use crate::item::{Construct, Item};
+use crate::item::Item;
 use gier_symbol::Tag;
+use gier_tree::Construct;
 
 /// What a symbol is written as, where its place gives it a tag of its own.
 #[derive(Debug, Clone, Copy, PartialEq, Eq)]

@@ -6,104 +6,37 @@
 ghost use Rattle.std.specs.Prelude.{◌≡◌, ◌<◌, ◌≤◌, length};
 ghost use Rattle.gier_text.specs.Kept.{kept};
 ghost use Rattle.gier_text.specs.Lists.{list_at};
-ghost use Rattle.gier_pass4.specs.Kinds.{kind_number, by_value, declared_by, integer_before, boolean_before, specified_by, typed_by, worded};
+ghost use Rattle.gier_pass4.specs.Kinds.{by_value, declared_by, integer_before, boolean_before, specified_by, typed_by, worded};
 ghost use Rattle.gier_pass4.specs.Lists.{HasLists, Fills, Grows};
 
 use crate::lists::{CELLS, Lists};
 use crate::marks::Place;
 use gier_symbol::Tag;
 use gier_text::Tables;
-
-/// The kind of a declared identifier; the number of a variant is the value of its description.
-#[derive(Debug, Clone, Copy, PartialEq, Eq)]
-pub(crate) enum Kind {
-    Unknown = 0,
-    Integer = 1,
-    Boolean = 2,
-    IntegerArray = 3,
-    BooleanArray = 4,
-    Label = 5,
-    Switch = 6,
-    Procedure = 7,
-    IntegerProcedure = 8,
-    BooleanProcedure = 9,
-    IntegerByValue = 11,
-    BooleanByValue = 12,
-    IntegerByName = 13,
-    BooleanByName = 14,
-    IntegerArrayFormal = 15,
-    BooleanArrayFormal = 16,
-    LabelFormal = 17,
-    SwitchFormal = 18,
-    StringFormal = 19,
-    ProcedureFormal = 20,
-    IntegerProcedureFormal = 21,
-    BooleanProcedureFormal = 22,
-}
+use gier_tree::Kind;
 
 /// How many cells hold the kinds themselves.
 pub(crate) const FIXED_CELLS: u32 = 23;
 
-impl Kind {
-    ghost use Rattle.gier_pass4.specs.declared.kinds.Kind.{Kind};
-
-    pub(crate) fn number(self) -> u64
-        ensures value { result ≡ kind_number self }
-        ensures small { result ≤ 22 }
-    {
-        self as u64
+/// The kind of a formal that stands in the value list.
+pub(crate) fn by_value(kind: Kind) -> Kind
+    ensures { result ≡ by_value kind }
+{
+    match kind {
+        Kind::IntegerFormal => Kind::IntegerValue,
+        Kind::BooleanFormal => Kind::BooleanValue,
+        _ => kind,
     }
+}
 
-    /// The kind with this number, or Unknown where none has it.
-    pub(crate) fn of(number: u64) -> Kind
-        ensures { (kind : Kind) → kind_number kind ≡ number → result ≡ kind }
-    {
-        match number {
-            1 => Kind::Integer,
-            2 => Kind::Boolean,
-            3 => Kind::IntegerArray,
-            4 => Kind::BooleanArray,
-            5 => Kind::Label,
-            6 => Kind::Switch,
-            7 => Kind::Procedure,
-            8 => Kind::IntegerProcedure,
-            9 => Kind::BooleanProcedure,
-            11 => Kind::IntegerByValue,
-            12 => Kind::BooleanByValue,
-            13 => Kind::IntegerByName,
-            14 => Kind::BooleanByName,
-            15 => Kind::IntegerArrayFormal,
-            16 => Kind::BooleanArrayFormal,
-            17 => Kind::LabelFormal,
-            18 => Kind::SwitchFormal,
-            19 => Kind::StringFormal,
-            20 => Kind::ProcedureFormal,
-            21 => Kind::IntegerProcedureFormal,
-            22 => Kind::BooleanProcedureFormal,
-            _ => Kind::Unknown,
-        }
-    }
-
-    /// The kind of a formal that stands in the value list.
-    pub(crate) fn by_value(self) -> Kind
-        ensures { result ≡ by_value self }
-    {
-        match self {
-            Kind::IntegerByName => Kind::IntegerByValue,
-            Kind::BooleanByName => Kind::BooleanByValue,
-            _ => self,
-        }
-    }
-
-    /// The kind of a procedure in whose heading these words stand that would specify a formal of this kind.
-    pub(crate) fn declared(self) -> Kind
-        ensures { result ≡ declared_by self }
-    {
-        match self {
-            Kind::IntegerProcedureFormal => Kind::IntegerProcedure,
-            Kind::BooleanProcedureFormal => Kind::BooleanProcedure,
-            _ => Kind::Procedure,
-        }
+/// The kind of a procedure in whose heading these words stand that would specify a formal of this kind.
+pub(crate) fn declared_by(kind: Kind) -> Kind
+    ensures { result ≡ declared_by kind }
+{
+    match kind {
+        Kind::IntegerProcedureFormal => Kind::IntegerProcedure,
+        Kind::BooleanProcedureFormal => Kind::BooleanProcedure,
+        _ => Kind::Procedure,
     }
 }
 
@@ -114,7 +47,7 @@ fn integer_before(behind: Kind) -> Kind
     match behind {
         Kind::IntegerArrayFormal => Kind::IntegerArrayFormal,
         Kind::ProcedureFormal => Kind::IntegerProcedureFormal,
-        _ => Kind::IntegerByName,
+        _ => Kind::IntegerFormal,
     }
 }
 
@@ -125,7 +58,7 @@ fn boolean_before(behind: Kind) -> Kind
     match behind {
         Kind::IntegerArrayFormal => Kind::BooleanArrayFormal,
         Kind::ProcedureFormal => Kind::BooleanProcedureFormal,
-        _ => Kind::BooleanByName,
+        _ => Kind::BooleanFormal,
     }
 }
 
@@ -151,7 +84,7 @@ pub(crate) fn with_word(place: Place, behind: Kind, word: Tag) -> Kind
 {
     match place {
         Place::Heading => specified(behind, word),
-        Place::TypeDeclaration => typed(Kind::Integer, Kind::Boolean, behind, word),
+        Place::TypeDeclaration => typed(Kind::IntegerVariable, Kind::BooleanVariable, behind, word),
         _ => typed(Kind::IntegerArray, Kind::BooleanArray, behind, word),
     }
 }
@@ -191,7 +124,7 @@ impl Lists {
         if tables.len(CELLS) >= self.most_cells() {
             return;
         }
-        tables.push(CELLS, &[Kind::Unknown.number()]);
+        tables.push(CELLS, &[Kind::Undeclared.number()]);
     }
 
     /// The number of the last cell.
@@ -202,14 +135,14 @@ impl Lists {
         tables.len(CELLS) - 1
     }
 
-    /// What stands in a cell; Unknown where there is no such cell.
+    /// What stands in a cell; Undeclared where there is no such cell, or no kind has its number.
     pub(crate) fn kind_in(self, tables: &Tables, cell: u64) -> Kind
         requires { HasLists self.bytes (kept tables.now) }
     {
         if cell < u64::from(tables.len(CELLS)) {
-            Kind::of(tables.word(CELLS, cell as u32, 0))
+            Kind::of(tables.word(CELLS, cell as u32, 0)).unwrap_or(Kind::Undeclared)
         } else {
-            Kind::Unknown
+            Kind::Undeclared
         }
     }
 

@@ -7,9 +7,10 @@ ghost use Rattle.gier_text.specs.Kept.{kept};
 ghost use Rattle.gier_text.specs.Lists.{list_at};
 ghost use Rattle.gier_pass4.specs.Lists.{HasLists, Fills, Grows};
 
-use crate::kinds::Kind;
+use crate::kinds::by_value;
 use crate::lists::{Lists, ROWS};
 use gier_text::Tables;
+use gier_tree::Kind;
 
 // The parts of a row.
 const SPECIFIED: u8 = 0;
@@ -73,19 +74,19 @@ impl Lists {
         }
     }
 
-    /// The kind of a formal in whose heading the first cell has this number; Unknown where it isn't specified.
+    /// The kind of a formal in whose heading the first cell has this number; Undeclared where it isn't specified.
     pub(crate) fn kind_of_formal(self, tables: &Tables, name: u64, first: u32) -> Kind
         requires { HasLists self.bytes (kept tables.now) }
     {
         let cell = self.noted(tables, name, SPECIFIED);
         if cell < u64::from(first) {
-            return Kind::Unknown;
+            return Kind::Undeclared;
         }
         let kind = self.kind_in(tables, cell);
         if self.noted(tables, name, BY_VALUE) < u64::from(first) {
             kind
         } else {
-            kind.by_value()
+            by_value(kind)
         }
     }
 }

@@ -11,10 +11,11 @@ ghost use Rattle.gier_pass4.specs.Kinds.{owned_at};
 ghost use Rattle.gier_pass4.specs.Lists.{IsLetter};
 ghost use Rattle.gier_pass4.specs.Standing.{IsReady, IsName, Works};
 
-use crate::marks::{Mark, Place};
+use crate::marks::Place;
 use crate::pass::Pass4;
 use gier_symbol::{Symbol, Tag};
 use gier_text::Tables;
+use gier_tree::Construct;
 use std::cmp;
 
 /// How much of the block around the program is still to be written.
@@ -142,7 +143,7 @@ impl Pass4 {
             lists.put_out(tables, lists.plain(Tag::ShutMark, s.value, line));
             lists.put_out(
                 tables,
-                lists.plain(Tag::ShutMark, Mark::Block.number(), line),
+                lists.plain(Tag::ShutMark, Construct::Block.number(), line),
             );
             lists.put_out(tables, lists.plain(Tag::End, 0, line));
         } else {
@@ -173,7 +174,7 @@ impl Pass4 {
         lists.give_own_entries(tables, s.line);
         lists.put_out(
             tables,
-            lists.plain(Tag::OpenMark, Mark::Block.number(), s.line),
+            lists.plain(Tag::OpenMark, Construct::Block.number(), s.line),
         );
         lists.put_out(tables, s);
     }

@@ -7,13 +7,14 @@ ghost use Rattle.gier_pass4.specs.declared.marks.Place.TheVariants.{Heading};
 ghost use Rattle.gier_pass4.specs.Lists.{HasLists, IsLetter, Grows, load};
 ghost use Rattle.gier_pass4.specs.Standing.{IsReady, IsName, Works};
 
-use crate::kinds::Kind;
+use crate::kinds::declared_by;
 use crate::lists::{CELLS, ENTRIES, Lists, SCOPES};
 use crate::marks::Place;
 use crate::owns::Owned;
 use crate::pass::Pass4;
 use gier_symbol::{Symbol, Tag};
 use gier_text::Tables;
+use gier_tree::Kind;
 use std::cmp;
 
 impl Lists {
@@ -149,7 +150,7 @@ impl Pass4 {
         lists.give_formals(tables);
         if let Some(name) = self.procedure {
             let cell = u64::from(lists.last_cell(tables));
-            let kind = lists.kind_in(tables, cell).declared();
+            let kind = declared_by(lists.kind_in(tables, cell));
             lists.declare(tables, name, kind.number());
         }
         self.procedure = None;

@@ -8,11 +8,12 @@ ghost use Rattle.gier_text.specs.Kept.{kept};
 ghost use Rattle.gier_pass4.specs.Lists.{IsLetter};
 ghost use Rattle.gier_pass4.specs.Standing.{IsReady, IsName, Works};
 
-use crate::marks::{Mark, Place};
+use crate::marks::Place;
 use crate::owns::Frame;
 use crate::pass::Pass4;
 use gier_symbol::{Symbol, Tag};
 use gier_text::Tables;
+use gier_tree::Construct;
 
 impl Pass4 {
     /// Takes a symbol, and puts what is to be written then into the list of that.
@@ -97,17 +98,19 @@ impl Pass4 {
         requires weight { weight_of 4 s.tag ≡ 1 }
         ensures { Works 1 self.old (kept tables.old) self.new (kept tables.new) }
     {
-        match Mark::of(s.value) {
-            Some(Mark::Program) => {
+        match Construct::of(s.value) {
+            Some(Construct::Program) => {
                 self.lists.begin_scope(tables);
                 self.end_program(s, tables);
             }
-            Some(Mark::Block | Mark::Procedure | Mark::Controlled) => {
+            Some(
+                Construct::Block | Construct::ProcedureDeclaration | Construct::ControlledStatement,
+            ) => {
                 self.lists.begin_scope(tables);
                 self.hand_on(s, tables);
             }
-            Some(mark) => {
-                self.begin_declaration(mark);
+            Some(construct) => {
+                self.begin_declaration(construct);
                 self.hand_on(s, tables);
             }
             None => self.hand_on(s, tables),
@@ -115,21 +118,21 @@ impl Pass4 {
     }
 
     // The mark behind a part of a declaration.
-    fn begin_declaration(&mut self, mark: Mark)
+    fn begin_declaration(&mut self, construct: Construct)
         ensures { self.new ≡ record self.old { place = self.new.place; bounds = self.new.bounds; owned = self.new.owned } }
     {
-        match mark {
-            Mark::TypeDeclaration => {
+        match construct {
+            Construct::TypeDeclaration => {
                 self.place = Place::TypeDeclaration;
                 self.begin_owned();
             }
-            Mark::Segment => {
+            Construct::ArraySegment => {
                 self.place = Place::Segment;
                 self.bounds = 0;
                 self.begin_owned();
             }
-            Mark::SwitchDeclaration => self.place = Place::SwitchDeclaration,
-            Mark::Bound => self.bounds = self.bounds.saturating_add(1),
+            Construct::SwitchDeclaration => self.place = Place::SwitchDeclaration,
+            Construct::Bound => self.bounds = self.bounds.saturating_add(1),
             _ => {}
         }
     }
@@ -141,29 +144,29 @@ impl Pass4 {
         requires weight { weight_of 4 s.tag ≡ 1 }
         ensures { Works 1 self.old (kept tables.old) self.new (kept tables.new) }
     {
-        match Mark::of(s.value) {
-            Some(Mark::Program) => {
+        match Construct::of(s.value) {
+            Some(Construct::Program) => {
                 let base = self.lists.end_scope(tables);
                 self.begin_program(s, base, tables);
             }
-            Some(Mark::Block | Mark::Controlled) => self.end_of_scope(s, tables),
-            Some(Mark::Procedure) => {
+            Some(Construct::Block | Construct::ControlledStatement) => self.end_of_scope(s, tables),
+            Some(Construct::ProcedureDeclaration) => {
                 self.end_of_scope(s, tables);
                 self.end_heading(tables);
             }
-            Some(Mark::Body) => {
+            Some(Construct::ProcedureBody) => {
                 self.begin_heading(tables);
                 self.hand_on(s, tables);
             }
-            Some(Mark::TypeDeclaration) => {
+            Some(Construct::TypeDeclaration) => {
                 self.place = Place::Statements;
                 self.end_type(s, tables);
             }
-            Some(Mark::Segment | Mark::SwitchDeclaration) => {
+            Some(Construct::ArraySegment | Construct::SwitchDeclaration) => {
                 self.place = Place::Statements;
                 self.hand_on(s, tables);
             }
-            Some(Mark::Bound) | None => self.hand_on(s, tables),
+            _ => self.hand_on(s, tables),
         }
     }
 

@@ -1,16 +1,24 @@
 -- What the kinds in descriptions have in common.
 use Rattle.std.specs.Prelude.{◌==◌, ◌||◌, ◌&&◌, ℕ, Bool, true, false, nat_le, if◌then◌else◌}
+use Rattle.gier_tree.specs.Kinds.{kind_number}
+use Rattle.gier_tree.specs.declared.kind.Kind.{Kind}
+use Rattle.gier_tree.specs.declared.kind.Kind.TheVariants.{IntegerVariable, BooleanVariable, IntegerArray, BooleanArray, Label, Switch, Procedure as ProcedureKind, IntegerProcedure, BooleanProcedure, OutInteger, Sign}
 use Rattle.gier_pass5.specs.declared.kinds.Class.{Class}
 use Rattle.gier_pass5.specs.declared.kinds.Class.TheVariants.{Variable, Array, Numbered, Procedure, Function, Formal, Standard}
 
+-- whether a kind has this number
+abbrev pub is_of : ℕ → Kind → Bool
+is_of number kind = number == kind_number kind
+
+-- what the kind with this number is; the standard procedures stand behind each other
 abbrev pub class_at : ℕ → Class
-class_at kind =
-    if kind == 1 || kind == 2 then Variable
-    else (if kind == 3 || kind == 4 then Array
-    else (if kind == 5 || kind == 6 then Numbered
-    else (if kind == 7 then Procedure
-    else (if kind == 8 || kind == 9 then Function
-    else (if nat_le 31 kind && nat_le kind 38 then Standard
+class_at number =
+    if is_of number IntegerVariable || is_of number BooleanVariable then Variable
+    else (if is_of number IntegerArray || is_of number BooleanArray then Array
+    else (if is_of number Label || is_of number Switch then Numbered
+    else (if is_of number ProcedureKind then Procedure
+    else (if is_of number IntegerProcedure || is_of number BooleanProcedure then Function
+    else (if nat_le (kind_number OutInteger) number && nat_le number (kind_number Sign) then Standard
     else Formal)))))
 
 abbrev pub is_counted : Class → Bool

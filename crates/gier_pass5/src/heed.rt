@@ -7,14 +7,15 @@ ghost use Rattle.gier_pass5.specs.Lists.{HasLists, entry_count, scope_count};
 ghost use Rattle.gier_pass5.specs.Standing.{IsReady, IsTaking, Heeds};
 
 use crate::entries::{self, Part};
-use crate::kinds::{Class, UNKNOWN, class_of};
-use crate::marks::{Construct, construct_of, is_scope};
+use crate::kinds::{Class, class_at};
+use crate::marks::is_scope;
 use crate::pass::Pass5;
 use crate::places::{self, BLOCK_START, PROCEDURE_START};
 use crate::step::{is_innermost, last_entry};
 use crate::{faults, scopes};
 use gier_symbol::{Symbol, Tag};
 use gier_text::{Fault, FaultKind, Tables};
+use gier_tree::{Construct, Kind};
 
 const GREATEST_LEVEL: u8 = 255;
 
@@ -33,8 +34,8 @@ impl Pass5 {
             Some(Tag::Formal) => self.heed_formal(s, tables),
             Some(Tag::ValueListed) => self.heed_listed(s, Part::Valued, tables),
             Some(Tag::Specified) => self.heed_listed(s, Part::Specified, tables),
-            Some(Tag::OpenMark) => self.heed_open(construct_of(s.value), tables),
-            Some(Tag::ShutMark) => self.heed_shut(construct_of(s.value), tables),
+            Some(Tag::OpenMark) => self.heed_open(s.value, tables),
+            Some(Tag::ShutMark) => self.heed_shut(s.value, tables),
             Some(Tag::Begin) | Some(Tag::Procedure) => self.heed_head(s.line, tables),
             Some(Tag::Semicolon) => self.heed_semicolon(tables),
             _ => {}
@@ -103,7 +104,7 @@ impl Pass5 {
         if let Some(entry) = scopes::pass_next(tables, scope) {
             if entries::is_second(tables, entry) {
                 self.fault(s.line, FaultKind::DeclaredTwice, tables);
-            } else if entries::get(tables, entry, Part::Kind) == UNKNOWN {
+            } else if entries::get(tables, entry, Part::Kind) == Kind::Undeclared.number() {
                 self.fault(s.line, FaultKind::NotSpecified, tables);
             }
         }
@@ -131,19 +132,23 @@ impl Pass5 {
     {
         let entry = self.entry_of(number, tables)?;
         let kind = entries::get(tables, entry, Part::Kind);
-        if is_innermost(entry, tables) && class_of(kind) == Class::Formal {
+        if is_innermost(entry, tables) && class_at(kind) == Class::Formal {
             Some(entry)
         } else {
             None
         }
     }
 
-    fn heed_open(&mut self, construct: Construct, tables: &mut Tables)
+    // The open mark of the construct with this number.
+    fn heed_open(&mut self, number: u64, tables: &mut Tables)
         requires taking { IsTaking self.old (kept tables.old) }
         ensures { Heeds self.old (kept tables.old) self.new (kept tables.new) }
     {
+        let Some(construct) = Construct::of(number) else {
+            return;
+        };
         match construct {
-            Construct::Body => self.in_heading = false,
+            Construct::ProcedureBody => self.in_heading = false,
             Construct::Bound => self.in_bound = true,
             _ => {}
         }
@@ -159,9 +164,9 @@ impl Pass5 {
     {
         let around = scopes::innermost(tables);
         let level = scopes::level(tables, around);
-        self.in_heading = construct == Construct::Procedure;
+        self.in_heading = construct == Construct::ProcedureDeclaration;
         self.counters.address = first_address(construct, around, tables);
-        if construct == Construct::Controlled {
+        if construct == Construct::ControlledStatement {
             scopes::enter(tables, level);
         } else {
             self.too_deep = level == GREATEST_LEVEL;
@@ -169,10 +174,14 @@ impl Pass5 {
         }
     }
 
-    fn heed_shut(&mut self, construct: Construct, tables: &mut Tables)
+    // The shut mark of the construct with this number.
+    fn heed_shut(&mut self, number: u64, tables: &mut Tables)
         requires taking { IsTaking self.old (kept tables.old) }
         ensures { Heeds self.old (kept tables.old) self.new (kept tables.new) }
     {
+        let Some(construct) = Construct::of(number) else {
+            return;
+        };
         if construct == Construct::Bound {
             self.in_bound = false;
         }
@@ -232,7 +241,7 @@ fn first_address(construct: Construct, around: u32, tables: &Tables) -> u64
 {
     match construct {
         Construct::Block => BLOCK_START,
-        Construct::Procedure => PROCEDURE_START + words_of_value(around, tables),
+        Construct::ProcedureDeclaration => PROCEDURE_START + words_of_value(around, tables),
         _ => 0,
     }
 }
@@ -244,7 +253,7 @@ fn words_of_value(scope: u32, tables: &Tables) -> u64
     ensures { result ≤ 1 }
 {
     match scopes::next(tables, scope) {
-        Some(entry) if class_of(entries::get(tables, entry, Part::Kind)) == Class::Function => 1,
+        Some(entry) if class_at(entries::get(tables, entry, Part::Kind)) == Class::Function => 1,
         _ => 0,
     }
 }

@@ -1,12 +1,12 @@
-// What the kinds in descriptions have in common.
+// What the kinds in descriptions have in common, as far as it matters for scopes.
 ghost use Rattle.std.specs.Prelude.{◌≡◌};
+ghost use Rattle.gier_tree.specs.Kinds.{kind_number};
 ghost use Rattle.gier_pass5.specs.Kinds.{class_at, is_counted};
 
-/// The kind of what isn't declared, and of a formal without a specification.
-pub(crate) const UNKNOWN: u64 = 0;
+use gier_tree::Kind;
 
 /// The kind of the first standard procedure; those of the others follow.
-pub(crate) const FIRST_STANDARD: u64 = 31;
+pub(crate) const FIRST_STANDARD: Kind = Kind::OutInteger;
 
 /// How many standard procedures there are.
 pub(crate) const STANDARDS: u32 = 8;
@@ -30,25 +30,37 @@ pub(crate) enum Class {
 }
 
 /// What a kind is.
-pub(crate) fn class_of(kind: u64) -> Class
-    ensures { result ≡ class_at kind }
+fn class_of(kind: Kind) -> Class
+    ensures { result ≡ class_at (kind_number kind) }
 {
     match kind {
-        1 | 2 => Class::Variable,
-        3 | 4 => Class::Array,
-        5 | 6 => Class::Numbered,
-        7 => Class::Procedure,
-        8 | 9 => Class::Function,
-        31..=38 => Class::Standard,
+        Kind::IntegerVariable | Kind::BooleanVariable => Class::Variable,
+        Kind::IntegerArray | Kind::BooleanArray => Class::Array,
+        Kind::Label | Kind::Switch => Class::Numbered,
+        Kind::Procedure => Class::Procedure,
+        Kind::IntegerProcedure | Kind::BooleanProcedure => Class::Function,
+        Kind::OutInteger | Kind::OutText | Kind::OutCr | Kind::OutChar => Class::Standard,
+        Kind::InInteger | Kind::InChar | Kind::Abs | Kind::Sign => Class::Standard,
         _ => Class::Formal,
     }
 }
 
-/// Whether a count stands behind the place of a used identifier of this kind.
+/// What the kind with this number is. A number that no kind has counts as that of a formal.
+#[tactic(auto, using(crate::proofs::Unnumbered::formal_where_none))]
+pub(crate) fn class_at(number: u64) -> Class
+    ensures { result ≡ class_at number }
+{
+    match Kind::of(number) {
+        Some(kind) => class_of(kind),
+        None => Class::Formal,
+    }
+}
+
+/// Whether a count stands behind the place of a used identifier whose kind has this number.
 pub(crate) fn has_count(kind: u64) -> bool
     ensures { result ≡ is_counted (class_at kind) }
 {
-    match class_of(kind) {
+    match class_at(kind) {
         Class::Array | Class::Procedure | Class::Function => true,
         Class::Variable | Class::Numbered | Class::Formal | Class::Standard => false,
     }

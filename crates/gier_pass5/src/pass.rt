@@ -106,7 +106,7 @@ fn add_standard(tables: &mut Tables, bytes: u32)
 {
     for number in 0..STANDARDS {
         let told = Told {
-            kind: FIRST_STANDARD + u64::from(number),
+            kind: FIRST_STANDARD.number() + u64::from(number),
             place: 0,
             count: 0,
             own: None,

@@ -3,7 +3,7 @@ ghost use Rattle.std.specs.Prelude.{◌≡◌, ◌<◌, ◌*◌, ◌^◌, min};
 ghost use Rattle.gier_pass5.specs.Kinds.{class_at};
 ghost use Rattle.gier_pass5.specs.Places.{behind, place_at, words_of, numbers_of};
 
-use crate::kinds::{Class, class_of};
+use crate::kinds::{Class, class_at};
 
 // Addresses and numbers are below this one, and a level counts so much.
 const ADDRESSES: u64 = 1 << 24;
@@ -44,7 +44,7 @@ pub(crate) fn of_dimensions(count: u64) -> u64
     2 * count.min(GREATEST)
 }
 
-/// Gives the place of a quantity of this kind at this level, and counts it.
+/// Gives the place of a quantity whose kind has this number at this level, and counts it.
 pub(crate) fn place(counters: &mut Counters, kind: u64, level: u8) -> u64
     ensures place { result ≡ place_at (class_at kind) level counters.old.address counters.old.number }
     ensures address { counters.new.address ≡ behind counters.old.address (words_of (class_at kind)) }
@@ -52,7 +52,7 @@ pub(crate) fn place(counters: &mut Counters, kind: u64, level: u8) -> u64
     ensures small { result < 2 ^ 40 }
 {
     let base = u64::from(level) * ADDRESSES;
-    match class_of(kind) {
+    match class_at(kind) {
         Class::Variable => base + take_address(counters, 1),
         Class::Array => base + take_address(counters, DESCRIPTOR),
         Class::Formal => base + take_address(counters, 2),

@@ -13,7 +13,6 @@ ghost use Rattle.gier_pass5.specs.Steps.{Steps, Takes, described};
 ghost use Rattle.gier_pass5.specs.Uses.{symbols_of};
 
 use crate::entries::{self, Part, Told};
-use crate::kinds::UNKNOWN;
 use crate::meant::Meant;
 use crate::outbox::emit;
 use crate::pass::{Pass5, is, weight_of};
@@ -21,6 +20,7 @@ use crate::uses::{meant_by, nothing, put_use};
 use crate::{index, places, scopes};
 use gier_symbol::{Symbol, Tag};
 use gier_text::{FaultKind, Tables};
+use gier_tree::Kind;
 
 // Counts are at most this.
 const GREATEST_COUNT: u64 = (1 << 40) - 1;
@@ -196,7 +196,7 @@ fn told_by(own: Option<u32>, tables: &Tables) -> Told
             own,
         },
         None => Told {
-            kind: UNKNOWN,
+            kind: Kind::Undeclared.number(),
             place: 0,
             count: 0,
             own,

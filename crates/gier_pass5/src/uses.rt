@@ -2,24 +2,27 @@
 ghost use Rattle.std.specs.Prelude.{◌≡◌, ◌≤◌, ◌<◌, ◌+◌, ◌^◌};
 ghost use Rattle.gier_text.specs.Kept.{kept};
 ghost use Rattle.gier_text.specs.Lists.{list_at, word_at};
+ghost use Rattle.gier_tree.specs.Kinds.{kind_number};
+ghost use Rattle.gier_tree.specs.declared.kind.Kind.TheVariants.{Undeclared};
 ghost use Rattle.gier_pass5.specs.Lists.{HasLists, Emits, out_of, entry_count};
 ghost use Rattle.gier_pass5.specs.Uses.{symbols_of};
 
 use crate::entries::{self, Part};
-use crate::kinds::{UNKNOWN, has_count};
+use crate::kinds::has_count;
 use crate::meant::Meant;
 use crate::outbox::emit;
 use gier_symbol::{Symbol, Tag};
 use gier_text::Tables;
+use gier_tree::Kind;
 
 /// What an identifier without a declaration means: it has no kind and no place.
 pub(crate) fn nothing() -> Meant
-    ensures kind { result.kind ≡ 0 }
+    ensures kind { result.kind ≡ kind_number Undeclared }
     ensures place { result.place ≡ 0 }
     ensures count { result.count ≡ 0 }
 {
     Meant {
-        kind: UNKNOWN,
+        kind: Kind::Undeclared.number(),
         place: 0,
         count: 0,
     }
