@@ -10,6 +10,7 @@ use gier_pass3::Pass3;
 use gier_pass4::Pass4;
 use gier_pass5::Pass5;
 use gier_pass6::Pass6;
+use gier_pass8::Pass8;
 use gier_symbol::Symbol;
 use gier_text::{ListText, Pass, PassStop, Tables, Text, Way, drive};
 use std::alloc::Global;
@@ -95,6 +96,7 @@ fn drive_pass(
         4 => run(alloc, &mut Pass4::open(tables, bytes), input, way, tables),
         5 => run(alloc, &mut Pass5::open(tables, bytes), input, way, tables),
         6 => run(alloc, &mut Pass6::open(tables, bytes), input, way, tables),
+        8 => run(alloc, &mut Pass8::open(tables, bytes), input, way, tables),
         _ => Ok(ListText::open(alloc)),
     }
 }

@@ -1,0 +1,12 @@
+use Rattle.std.proofs.Common.{◌≡◌}
+use Rattle.gier_text.specs.Kept.{kept}
+use Rattle.gier_text.specs.Lists.{list_at}
+use Rattle.gier_labels.specs.Labels.{HasLabels, KeepsOthers}
+use Rattle.gier_labels.proofs.labels.reach.Given as goal
+
+abbrev pub invariant-loop-turn : goal.invariant-loop-turn
+invariant-loop-turn l = record {
+  labels : HasLabels l.room (kept l.tables);
+  others : KeepsOthers (kept l.initial.tables) (kept l.tables);
+  count : (list_at (kept l.tables).lists l.list).count ≡ l._turn;
+}

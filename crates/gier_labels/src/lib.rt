@@ -1,0 +1,6 @@
+// A word for each label number, found by the number, in two lists of the tables. What the words mean isn't told here.
+#![tactic(auto)]
+
+mod labels;
+
+pub use labels::{FIRST_OTHER, open, set_word, word};
