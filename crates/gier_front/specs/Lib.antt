@@ -1,4 +1,3 @@
-pub mod Areas
 pub mod Stops
 pub mod Stages
 pub mod Handed

@@ -1,7 +1,6 @@
 // The front of the compiler: passes 1 to 6, from the tape to text 6, and the list of errors.
 #![tactic(auto)]
 
-mod areas;
 mod passes;
 mod pieces;
 mod printing;
@@ -9,7 +8,7 @@ mod stage;
 mod stages;
 mod stop;
 
-pub use areas::{LIMIT, first_track, tracks_for};
+pub use gier_areas::{LIMIT, first_track, tracks_for};
 pub use gier_text::Fronted;
 pub use passes::front;
 pub use pieces::put_both;

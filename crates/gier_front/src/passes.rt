@@ -6,14 +6,14 @@ ghost use Rattle.gier_text.specs.Kept.{kept};
 ghost use Rattle.gier_text.specs.View.{IsEmpty, IsPlacedAs};
 ghost use Rattle.gier_pass2.specs.Standing.{IsTextOne};
 ghost use Rattle.gier_front.specs.declared.stop.FrontStop.TheVariants.{Errors, Read, Drum as DrumStop};
-ghost use Rattle.gier_front.specs.Areas.{longest, first_of, capacity_of, all_tracks};
+ghost use Rattle.gier_areas.specs.Areas.{longest, first_of, capacity_of, all_tracks};
 ghost use Rattle.gier_front.specs.Fronted.{IsFronted, FrontTakes};
 ghost use Rattle.gier_front.specs.Stages.{IsToldAs, IsNothing, AreClean, GoesOn};
 ghost use Rattle.gier_front.specs.Stops.{NotSpoilt};
 
-use crate::areas::{LIMIT, capacity, first_track};
 use crate::stage::{no_faults, run_stage};
 use crate::stop::{FrontStop, of_pass, of_text};
+use gier_areas::{LIMIT, capacity, first_track};
 use gier_drum::Drum;
 use gier_io::Source;
 use gier_pass1::{Pass1, ReadStop};

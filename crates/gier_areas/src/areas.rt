@@ -1,6 +1,6 @@
-// How the drum is divided: two areas for the texts, and the object's tracks behind them.
-ghost use Rattle.std.specs.Prelude.{◌≡◌, ◌≤◌, ◌<◌, ◌^◌};
-ghost use Rattle.gier_front.specs.Areas.{area_tracks, object_tracks, all_tracks, first_of, capacity_of};
+// How many tracks texts and objects take, and where they lie on the drum.
+ghost use Rattle.std.specs.Prelude.{◌≡◌, ◌≤◌, ◌^◌};
+ghost use Rattle.gier_areas.specs.Areas.{area_tracks, all_tracks, first_of, capacity_of, words_of, object_first};
 
 /// The most bytes that a program text may have.
 pub const LIMIT: u32 = 524_288;
@@ -19,11 +19,19 @@ const MORE: u32 = 64;
 const OBJECT_GROWTH: u32 = 16;
 
 /// The most symbols that a text of a program of so many bytes, at most 2^24, may have.
-pub(crate) fn capacity(limit: u32) -> u32
+pub fn capacity(limit: u32) -> u32
     requires { limit ≤ 2 ^ 24 }
     ensures { result ≡ capacity_of limit }
 {
     GROWTH * limit + MORE
+}
+
+/// The most words that the object of a program of so many bytes, at most 2^24, may have.
+pub fn object_words(bytes: u32) -> u32
+    requires { bytes ≤ 2 ^ 24 }
+    ensures { result ≡ words_of bytes }
+{
+    OBJECT_GROWTH * bytes + MORE
 }
 
 fn area(limit: u32) -> u32
@@ -38,7 +46,7 @@ pub fn tracks_for(limit: u32) -> u32
     requires { limit ≤ 2 ^ 24 }
     ensures { result ≡ all_tracks limit }
 {
-    2 * area(limit) + (OBJECT_GROWTH * limit + MORE).div_ceil(WORDS_ON_TRACK)
+    2 * area(limit) + object_words(limit).div_ceil(WORDS_ON_TRACK)
 }
 
 /// The first track of text k, from 1 to 8: texts with an odd number lie in the second area.
@@ -46,4 +54,11 @@ pub fn first_track(text: u8) -> u32
     ensures { result ≡ first_of text }
 {
     if text % 2 == 1 { area(LIMIT) } else { 0 }
+}
+
+/// The first track of the object, behind both areas.
+pub fn object_track() -> u32
+    ensures { result ≡ object_first }
+{
+    2 * area(LIMIT)
 }

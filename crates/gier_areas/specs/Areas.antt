@@ -24,3 +24,11 @@ all_tracks limit = 2 * area_tracks limit + object_tracks limit
 -- text k lies in the area k mod 2
 abbrev pub first_of : ℕ → ℕ
 first_of text = if text % 2 == 1 then area_tracks longest else 0
+
+-- the most words of an object
+abbrev pub words_of : ℕ → ℕ
+words_of bytes = 16 * bytes + 64
+
+-- the object lies behind both areas
+abbrev pub object_first : ℕ
+object_first = 2 * area_tracks longest
