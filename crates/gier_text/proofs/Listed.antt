@@ -3,14 +3,11 @@ use Rattle.std.proofs.Common.{◌<◌, ◌≡◌, ℕ, zero, suc, ◌+◌, ◌�
 use Rattle.std.proofs.lemmas.Bool.{cases_eq, cases_lt}
 use Rattle.std.proofs.lemmas.List.{ext_get_or, get_or_append_left, get_or_at, get_or-drop, take_all, take-append-le, drop_more, reverse-append}
 use Rattle.gier_text.specs.Coded.{listed}
+use Rattle.gier_text.specs.Own.{listed_same}
 
 pub length-listed : {A : Type 0} (f : ℕ → A) (n : ℕ) → length (listed f n) ≡ n
 length-listed f zero = refl
 length-listed f (suc n) = length-append (listed f n) (f n ∷ []) ∙ omega (arith, length-listed f n)
-
-pub listed_same : {A : Type 0} (f g : ℕ → A) (n : ℕ) → ((i : ℕ) → i < n → f i ≡ g i) → listed f n ≡ listed g n
-listed_same f g zero same = refl
-listed_same f g (suc n) same = rw (listed_same f g n (λ i lt. same i (omega arith)), same n (omega arith)) refl
 
 pub get_or-listed : {A : Type 0} (f : ℕ → A) (n i : ℕ) (d : A) → i < n → get_or (listed f n) i d ≡ f i
 get_or-listed f zero i d lt = absurd (omega arith)

@@ -1,13 +1,12 @@
 -- Symbols that wait in a list: one more is put behind them, and how many of them are written.
-use Rattle.std.proofs.Common.{◌<◌, ◌≡◌, ℕ, zero, suc, ◌+◌, ◌*◌, ◌^◌, ◌-◌, ◌≤◌, List, [], ◌∷◌, ◌++◌, Option, None, Some, length, get_or, refl, ap, sym, ◌∙◌, arith, inl, inr, length-append, add-one}
-use Rattle.std.proofs.lemmas.Bool.{cases_eq, cases_lt}
+use Rattle.std.proofs.Common.{◌<◌, ◌≡◌, ℕ, zero, suc, ◌+◌, ◌*◌, ◌-◌, ◌≤◌, List, [], ◌∷◌, ◌++◌, Option, None, Some, length, get_or, refl, ap, sym, ◌∙◌, arith, inl, inr, length-append, add-one}
+use Rattle.std.proofs.lemmas.Bool.{cases_eq}
 use Rattle.std.proofs.lemmas.List.{get_or_append_left}
-use Rattle.std.proofs.lemmas.List.{append-nil}
 use Rattle.std.proofs.Math.Seq.{get_or-append_right}
 use Rattle.gier_symbol.specs.declared.symbol.Symbol.{Symbol}
 use Rattle.gier_symbol.specs.Symbols.{IsSymbol, code_of, decoded}
 use Rattle.gier_text.specs.declared.extent.Extent.{Extent}
-use Rattle.gier_text.specs.Lists.{TableList, word_at, pushed, list_in, nth_extent, end_of, IsLaid}
+use Rattle.gier_text.specs.Lists.{TableList, pushed, list_in, nth_extent, end_of, IsLaid}
 use Rattle.gier_text.specs.Outbox.{symbol_at, if_any, waiting_until, waiting}
 use Rattle.gier_text.proofs.Laid.{length-segment}
 use Rattle.gier_text.proofs.Writing.{decoded_code}

@@ -14,7 +14,8 @@ use Rattle.gier_text.specs.declared.text.Way.TheVariants.{Forward, Backward}
 use Rattle.gier_text.specs.Left.{left_of}
 use Rattle.gier_text.specs.Coded.{told, all_some, symbol_in, symbol_at, listed, symbols_of, left_in, tracks_for, unwritten}
 use Rattle.gier_text.specs.View.{View, KeepsTracks, Appends, OrdersLeft}
-use Rattle.gier_text.proofs.Listed.{length-listed, listed_same, listed_more}
+use Rattle.gier_text.proofs.Listed.{length-listed, listed_more}
+use Rattle.gier_text.specs.Own.{listed_same}
 use Rattle.gier_text.proofs.Told.{ordered_cells, appends_cell, orders_cells}
 use Rattle.gier_text.proofs.Reading.{at_same, words_loaded, words_other}
 

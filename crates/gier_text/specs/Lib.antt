@@ -10,3 +10,4 @@ pub mod Kept
 pub mod Outbox
 pub mod Growth
 pub mod Faults
+pub mod Own

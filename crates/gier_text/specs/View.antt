@@ -130,3 +130,8 @@ track_in (Some tracks) t = slice_index_or tracks t []
 pub record KeepsTracks (first end : ℕ) (old new : Option (List (List ℕ))) : Type 0 where
   pub told : is_some new ≡ is_some old
   pub others : (t : ℕ) → (t < first) ⊎ (end ≤ t) → track_in new t ≡ track_in old t
+
+-- the tracks from one up to another are the same ones, or both are untold
+pub record SameTracks (first end : ℕ) (old new : Option (List (List ℕ))) : Type 0 where
+  pub told : is_some new ≡ is_some old
+  pub own : (t : ℕ) → first ≤ t → t < end → track_in new t ≡ track_in old t

@@ -15,7 +15,8 @@ use crate::{Pass, PassStop, Tables, Text, TextStop, Way};
 use gier_symbol::{Alphabet, Symbol};
 use gier_word::Odd;
 
-fn pass_stop(stop: TextStop) -> PassStop
+/// What the stop of a text is for a pass.
+pub fn pass_stop(stop: TextStop) -> PassStop
     ensures { result ≡ pass_stop_of stop }
 {
     match stop {

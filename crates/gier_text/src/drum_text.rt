@@ -124,8 +124,11 @@ impl<D: Drum> Text for DrumText<D> {
     ghost grows = { false };
 
     ghost use Rattle.std.proofs.Common.{arith};
+    ghost use Rattle.gier_text.specs.Own.{own_view};
 
     ghost runs = { λ t. Prim.omega arith };
+
+    ghost own = { λ t old new same. own_view (D.tracks old) (D.tracks new) t.first t.loaded t.buffer t.count t.capacity t.rewound t.way t.unread (log_of t.fresh t.rewound t.first t.count t.way t.loaded) t.limited same };
 
     fn write_next(&mut self, store: &mut D, s: Symbol) -> Result<(), TextStop> {
         if self.count == self.capacity {

@@ -12,7 +12,7 @@ mod pass;
 mod tables;
 mod text;
 
-pub use driver::{drive, write};
+pub use driver::{drive, pass_stop, write};
 pub use drum_text::DrumText;
 pub use fault::{Fault, FaultKind};
 pub use fronted::Fronted;

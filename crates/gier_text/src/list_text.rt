@@ -61,9 +61,11 @@ impl Text for ListText {
 
     ghost grows = { true };
 
-    ghost use Rattle.std.proofs.Common.{arith};
+    ghost use Rattle.std.proofs.Common.{arith, refl};
 
     ghost runs = { λ t. Prim.omega arith };
+
+    ghost own = { λ t old new same. refl };
 
     fn write_next(&mut self, _store: &mut (), s: Symbol) -> Result<(), TextStop> {
         match self.list.push(s) {

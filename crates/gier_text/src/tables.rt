@@ -59,6 +59,14 @@ impl Tables {
         })
     }
 
+    /// The bytes of the longest program that they were opened for.
+    pub fn limit(&self) -> u32
+        ensures limit { result ≡ (kept self.now).limit }
+        ensures few { result ≤ 2 ^ 19 }
+    {
+        self.limit
+    }
+
     /// Opens an empty list of entries of `width` words, and gives its number.
     pub fn list(&mut self, width: u8, capacity: u32) -> u8
         requires few { length (kept self.old).lists < 16 }

@@ -6,7 +6,7 @@ ghost use Rattle.gier_symbol.specs.Symbols.{IsSymbol};
 ghost use Rattle.gier_text.specs.declared.text.TextStop.TheVariants.{Failed, Full, Memory};
 ghost use Rattle.gier_text.specs.Stops.{NotSpoilt, SpoiltOnly, IsSymbolOrEnd};
 ghost use Rattle.gier_text.specs.Log.{Logged};
-ghost use Rattle.gier_text.specs.View.{View, IsFull, Writes, Rewinds, Reads, KeepsOthers, KeepsAll, IsPlacedAs, KeepsTracks};
+ghost use Rattle.gier_text.specs.View.{View, IsFull, Writes, Rewinds, Reads, KeepsOthers, KeepsAll, IsPlacedAs, KeepsTracks, SameTracks};
 
 use gier_symbol::Symbol;
 use gier_word::Odd;
@@ -114,4 +114,7 @@ pub trait Text {
 
     /// The tracks of a text run from the first one on.
     ghost runs: { (t : Self) → first_track t ≤ end_track t };
+
+    /// What a text is depends on the text and its own tracks alone.
+    ghost own: { (t : Self) (old new : Self.Store) → SameTracks (first_track t) (end_track t) (tracks old) (tracks new) → view t new ≡ view t old };
 }

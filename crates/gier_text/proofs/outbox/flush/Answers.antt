@@ -1,8 +1,7 @@
-use Rattle.std.proofs.Common.{◌<◌, ◌∙◌, ap, arith, length, sym, subst}
+use Rattle.std.proofs.Common.{◌<◌, ◌∙◌, arith, length, sym}
 use Rattle.gier_text.specs.Kept.{kept}
 use Rattle.gier_text.specs.Lists.{list_at}
 use Rattle.gier_text.specs.Outbox.{waiting_until, if_any, symbol_at}
-use Rattle.gier_text.specs.View.{WritesAll}
 use Rattle.gier_text.proofs.Driven.{writes_more, logged_more, tracks_more}
 use Rattle.gier_text.proofs.Waiting.{until_more, less_room}
 use Rattle.gier_text.proofs.outbox.flush.Goals as goal

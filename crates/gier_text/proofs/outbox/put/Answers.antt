@@ -1,7 +1,7 @@
-use Rattle.std.proofs.Common.{◌≡◌, ◌<◌, ◌*◌, ◌∙◌, ap, arith, length, List, map, refl, sym, set}
+use Rattle.std.proofs.Common.{◌≡◌, ◌<◌, ◌*◌, ◌∙◌, ap, arith, length, set}
 use Rattle.std.proofs.lemmas.List.{length-map, get_or-set_same}
 use Rattle.gier_symbol.specs.Symbols.{code_of}
-use Rattle.gier_text.specs.Lists.{TableList, list_in, list_at, no_list, nth_extent, pushed}
+use Rattle.gier_text.specs.Lists.{list_in, list_at, no_list, pushed}
 use Rattle.gier_text.specs.Kept.{Kept, kept}
 use Rattle.gier_text.specs.Outbox.{waiting}
 use Rattle.gier_text.proofs.Laid.{list_at-map}
