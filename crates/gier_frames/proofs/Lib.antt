@@ -1,3 +1,4 @@
 pub mod Seeking
+pub mod Displaying
 pub mod Extents
 pub mod Counting

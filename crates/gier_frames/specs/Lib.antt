@@ -4,5 +4,6 @@ pub mod Numbers
 pub mod Refusals
 pub mod Effects
 pub mod Walk
+pub mod Display
 pub mod Answers
 pub mod Stop

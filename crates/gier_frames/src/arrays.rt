@@ -35,6 +35,7 @@ impl Frames {
         self.words.set(self.base + 2, self.top + count);
         self.top += count;
         self.greatest = self.greatest.max(self.top);
+        self.display.build(&self.words, self.base);
         Ok(())
     }
 

@@ -59,6 +59,7 @@ impl Frames {
         self.base = base;
         self.top = base + room;
         self.greatest = self.greatest.max(base + room);
+        self.display.build(&self.words, base);
         Ok(())
     }
 
@@ -82,6 +83,7 @@ impl Frames {
         }
         self.top = self.base;
         self.base = old;
+        self.display.build(&self.words, old);
         Ok(back as u32)
     }
 
@@ -104,6 +106,7 @@ impl Frames {
         self.base = base;
         self.top = top;
         self.greatest = self.greatest.max(top);
+        self.display.build(&self.words, base);
         Ok(())
     }
 }

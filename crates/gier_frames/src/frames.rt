@@ -6,7 +6,8 @@ ghost use Rattle.gier_frames.specs.Refusals.{start_refusal, block_refusal, leave
 ghost use Rattle.gier_frames.specs.Effects.{entered_one, started, entered_block, left, written};
 ghost use Rattle.gier_frames.specs.Walk.{cell_of};
 
-use crate::walk::{BASES, seek};
+use crate::display::Display;
+use crate::walk::BASES;
 use crate::{Halt, writes};
 use gier_region::Region;
 use gier_word::{Alarm, NoMemory};
@@ -34,17 +35,20 @@ pub struct Frames {
     pub(crate) top: u64,
     pub(crate) greatest: u64,
     pub(crate) entered: bool,
+    // The visible activations of the current one.
+    pub(crate) display: Display,
 }
 
 impl Model for Frames {
     ghost use Rattle.std.specs.Prelude.{◌≡◌, ◌<◌, ◌≤◌, ◌^◌, true, length, vec_capacity};
     ghost use Rattle.gier_frames.specs.State.{State};
+    ghost use Rattle.gier_frames.specs.Display.{Shows};
 
     ghost Value = { State };
 
     ghost view = { λ f. record { words = f.words.words; marks = f.marks.words; base = f.base; top = f.top; greatest = f.greatest; entered = f.entered } };
 
-    ghost invariant = { λ f. (length f.words.words < 2 ^ 24) × (length f.marks.words ≡ length f.words.words) × (f.top ≤ length f.words.words) × (f.greatest ≤ length f.words.words) × (f.base ≤ length f.words.words) × (f.entered ≡ true → f.base < length f.words.words) × (510 ≤ vec_capacity f.saved) };
+    ghost invariant = { λ f. (length f.words.words < 2 ^ 24) × (length f.marks.words ≡ length f.words.words) × (f.top ≤ length f.words.words) × (f.greatest ≤ length f.words.words) × (f.base ≤ length f.words.words) × (f.entered ≡ true → f.base < length f.words.words) × (510 ≤ vec_capacity f.saved) × (f.display.size ≡ length f.words.words) × (f.entered ≡ true → Shows f.display f.words.words f.base) };
 }
 
 impl Frames {
@@ -54,6 +58,7 @@ impl Frames {
         ensures { IfOk result (λ frames. frames ≡ fresh words) }
     {
         let size = u64::from(words);
+        let display = Display::open(alloc, words)?;
         let words = Region::open(alloc, size)?;
         let marks = Region::open(alloc, size)?;
         match Vec::with_capacity(alloc, MOST_SAVED) {
@@ -65,6 +70,7 @@ impl Frames {
                 top: 0,
                 greatest: 0,
                 entered: false,
+                display,
             }),
             Err(_) => Err(NoMemory),
         }
@@ -122,19 +128,21 @@ impl Frames {
         }
         self.top = self.base;
         self.base = old;
+        self.display.build(&self.words, old);
         Ok(())
     }
 
     /// The place at an address in the visible activation of a level, which need not be a place of the stack.
     ///
     /// Odd where none of this level is visible.
+    #[tactic(auto, using(crate::proofs::Displaying::shown_answers))]
     pub fn cell(&self, level: u8, address: u32) -> Result<u64, Halt>
         ensures { result ≡ cell_of self.now level address }
     {
         if !self.entered {
             return Err(Halt::Odd);
         }
-        let base = seek(&self.words, u64::from(level), self.base)?;
+        let base = self.display.find(level)?;
         Ok(base + u64::from(address))
     }
 
@@ -182,7 +190,7 @@ impl Frames {
         if !self.entered || place >= self.words.size() {
             return Err(Halt::Odd);
         }
-        self.words.set(place, word);
+        self.display.write(&mut self.words, self.base, place, word);
         Ok(())
     }
 
@@ -237,6 +245,7 @@ impl Frames {
         self.top = end;
         self.greatest = self.greatest.max(end);
         self.entered = true;
+        self.display.build(&self.words, base);
     }
 }
 

@@ -5,6 +5,7 @@
 mod arrays;
 mod bounds;
 mod calls;
+mod display;
 mod frames;
 mod halt;
 mod stop;
