@@ -1,0 +1,248 @@
+// The activations of procedures and evaluations: entering one that was found, and the orders that leave one.
+ghost use Rattle.std.specs.Prelude.{◌≡◌, ◌+◌, ◌<◌, ◌≤◌, ◌^◌, IfOk, Err, OnOk, length};
+ghost use Rattle.gier_order.specs.Codes.{IsOrder};
+ghost use Rattle.gier_exec.specs.Registers.{Keeps, Goes};
+ghost use Rattle.gier_exec.specs.declared.stop.Stop.TheVariants.{Odd};
+
+use crate::Machine;
+use crate::frame::{can_enter, local};
+use crate::machine::address_of;
+use crate::stop::Stop;
+use gier_frames::{Frames, Halt};
+use gier_names::{Wanted, begin, give};
+use gier_order::Order;
+use gier_word::Alarm;
+
+/// A procedure that is to be entered.
+#[derive(Clone, Copy)]
+pub(crate) struct Entry {
+    pub level: u8,
+    pub room: u32,
+    /// The base of the activation that encloses it.
+    pub outer: u64,
+    /// Twice the number of its formals, and 1 more for a function.
+    pub count: u32,
+    /// Where its actuals stand, counted from the current base.
+    pub from: u64,
+    /// The address of its first order.
+    pub next: u32,
+}
+
+/// An evaluation that is to be entered.
+#[derive(Clone, Copy)]
+pub(crate) struct Evaluation {
+    pub thunk: Order,
+    /// The base of the activation that encloses it.
+    pub outer: u64,
+    pub wanted: Wanted,
+    /// The address of its first order.
+    pub next: u32,
+}
+
+// Where an activation has the order to return to, what is wanted of it, and a function's value.
+const BACK: u32 = 3;
+
+const WANTED: u32 = 4;
+
+const VALUE: u32 = 5;
+
+/// Enters a procedure: charges the step, then takes the room.
+#[tactic(auto, using(crate::proofs::Falling::paid_falls, crate::proofs::Sizes::length_called))]
+pub(crate) fn enter_procedure(
+    m: &mut Machine,
+    frames: &mut Frames,
+    entry: Entry,
+    words: u32,
+) -> Result<u32, Stop>
+    requires next { entry.next < words }
+    requires place { m.old.place < words }
+    ensures keeps { Keeps m.old m.new }
+    ensures goes { IfOk result (λ at. Goes words m.old at m.new) }
+    ensures size { length frames.new.words ≡ length frames.old.words }
+    ensures odd { result ≡ Err Odd → (m.new ≡ m.old) × (frames.new ≡ frames.old) }
+{
+    let Ok(from) = u32::try_from(entry.from) else {
+        return Err(Stop::Odd);
+    };
+    if m.steps_left() == 0 {
+        return if can_enter(frames, entry.room, entry.outer, from, entry.count) {
+            Err(Stop::Steps)
+        } else {
+            Err(Stop::Odd)
+        };
+    }
+    let back = m.place() + 1;
+    match frames.call(
+        entry.level,
+        entry.room,
+        entry.outer,
+        back,
+        0,
+        from,
+        entry.count,
+    ) {
+        Ok(()) => {
+            m.enter();
+            Ok(entry.next)
+        }
+        Err(Halt::Odd) => Err(Stop::Odd),
+        Err(Halt::Alarm(alarm)) => {
+            m.charge();
+            Err(Stop::Alarm(alarm))
+        }
+    }
+}
+
+/// Enters an evaluation: charges the step, then takes the room. With the alarm `assignment` it was entered.
+#[tactic(auto, using(crate::proofs::Falling::paid_falls, crate::proofs::Sizes::length_begun, crate::proofs::Sizes::begun_odd))]
+pub(crate) fn enter_evaluation(
+    m: &mut Machine,
+    frames: &mut Frames,
+    found: Evaluation,
+    words: u32,
+) -> Result<u32, Stop>
+    requires thunk { IsOrder found.thunk }
+    requires next { found.next < words }
+    requires place { m.old.place < words }
+    ensures keeps { Keeps m.old m.new }
+    ensures goes { IfOk result (λ at. Goes words m.old at m.new) }
+    ensures size { length frames.new.words ≡ length frames.old.words }
+    ensures odd { result ≡ Err Odd → (m.new ≡ m.old) × (frames.new ≡ frames.old) }
+{
+    if m.steps_left() == 0 {
+        return if can_enter(frames, found.thunk.address, found.outer, 0, 0) {
+            Err(Stop::Steps)
+        } else {
+            Err(Stop::Odd)
+        };
+    }
+    let back = m.place() + 1;
+    match begin(frames, found.thunk, found.outer, found.wanted, back) {
+        Ok(()) => {
+            m.enter();
+            Ok(found.next)
+        }
+        Err(Halt::Odd) => Err(Stop::Odd),
+        Err(Halt::Alarm(Alarm::Assignment)) => {
+            m.enter();
+            Err(Stop::Alarm(Alarm::Assignment))
+        }
+        Err(Halt::Alarm(alarm)) => {
+            m.charge();
+            Err(Stop::Alarm(alarm))
+        }
+    }
+}
+
+/// RETURN: leaves a procedure; `kind` is 1 for a function, whose value R becomes, and else 0.
+pub(crate) fn leave_procedure(
+    m: &mut Machine,
+    frames: &mut Frames,
+    kind: u32,
+    words: u32,
+) -> Result<u32, Stop>
+    ensures keeps { Keeps m.old m.new }
+    ensures goes { IfOk result (λ at. Goes words m.old at m.new) }
+    ensures size { length frames.new.words ≡ length frames.old.words }
+    ensures odd { result ≡ Err Odd → (m.new ≡ m.old) × (frames.new ≡ frames.old) }
+{
+    let value = match kind {
+        0 => Ok(m.r()),
+        1 => local(frames, VALUE),
+        _ => Err(Stop::Odd),
+    };
+    match value {
+        Ok(value) => leave(m, frames, value, words),
+        Err(stop) => Err(stop),
+    }
+}
+
+/// BACK: leaves an evaluation with what R has.
+pub(crate) fn leave_evaluation(
+    m: &mut Machine,
+    frames: &mut Frames,
+    words: u32,
+) -> Result<u32, Stop>
+    ensures keeps { Keeps m.old m.new }
+    ensures goes { IfOk result (λ at. Goes words m.old at m.new) }
+    ensures size { length frames.new.words ≡ length frames.old.words }
+    ensures odd { result ≡ Err Odd → (m.new ≡ m.old) × (frames.new ≡ frames.old) }
+{
+    match wanted_now(frames) {
+        Ok(_) => {
+            let r = m.r();
+            leave(m, frames, r, words)
+        }
+        Err(stop) => Err(stop),
+    }
+}
+
+/// GIVE: leaves the evaluation of a variable with its value or its place.
+#[tactic(auto, using(crate::proofs::Falling::paid_falls))]
+pub(crate) fn leave_variable(m: &mut Machine, frames: &mut Frames, words: u32) -> Result<u32, Stop>
+    ensures keeps { Keeps m.old m.new }
+    ensures goes { IfOk result (λ at. Goes words m.old at m.new) }
+    ensures size { length frames.new.words ≡ length frames.old.words }
+    ensures odd { result ≡ Err Odd → (m.new ≡ m.old) × (frames.new ≡ frames.old) }
+{
+    let next = match return_to(m, frames, words) {
+        Ok(next) => next,
+        Err(stop) => return Err(stop),
+    };
+    match give(frames, m.r()) {
+        Ok((_, value)) => {
+            m.leave();
+            m.set_r(value);
+            Ok(next)
+        }
+        Err(halt) => Err(Stop::from(halt)),
+    }
+}
+
+/// What is wanted of the current activation; odd where it isn't an evaluation's.
+pub(crate) fn wanted_now(frames: &Frames) -> Result<Wanted, Stop> {
+    match local(frames, WANTED) {
+        Ok(number) => match Wanted::of(number) {
+            Some(wanted) => Ok(wanted),
+            None => Err(Stop::Odd),
+        },
+        Err(stop) => Err(stop),
+    }
+}
+
+// Leaves the current activation, with this value for R.
+#[tactic(auto, using(crate::proofs::Falling::paid_falls))]
+fn leave(m: &mut Machine, frames: &mut Frames, value: u64, words: u32) -> Result<u32, Stop>
+    requires { value < 2 ^ 40 }
+    ensures keeps { Keeps m.old m.new }
+    ensures goes { IfOk result (λ at. Goes words m.old at m.new) }
+    ensures size { length frames.new.words ≡ length frames.old.words }
+    ensures odd { result ≡ Err Odd → (m.new ≡ m.old) × (frames.new ≡ frames.old) }
+{
+    let next = match return_to(m, frames, words) {
+        Ok(next) => next,
+        Err(stop) => return Err(stop),
+    };
+    match frames.back() {
+        Ok(_) => {
+            m.leave();
+            m.set_r(value);
+            Ok(next)
+        }
+        Err(halt) => Err(Stop::from(halt)),
+    }
+}
+
+// The order to return to; odd where nothing was entered.
+fn return_to(m: &Machine, frames: &Frames, words: u32) -> Result<u32, Stop>
+    ensures entered { IfOk result (λ next. 0 < m.now.depth) }
+    ensures within { IfOk result (λ next. next < words) }
+{
+    if m.depth() == 0 {
+        return Err(Stop::Odd);
+    }
+    match local(frames, BACK) {
+        Ok(word) => address_of(word, words),
+        Err(stop) => Err(stop),
+    }
+}

@@ -1,0 +1,271 @@
+// Which part of the machine carries out an order.
+ghost use Rattle.std.specs.Prelude.{◌≡◌, ◌≢◌, ◌+◌, ◌*◌, ◌<◌, ◌≤◌, ◌^◌, IfOk, length, Err};
+ghost use Rattle.gier_word.specs.Cause.{HasRisen};
+ghost use Rattle.gier_library.specs.Seen.{source_of};
+ghost use Rattle.gier_order.specs.Codes.{IsOrder};
+ghost use Rattle.gier_exec.specs.Registers.{Keeps, Goes};
+ghost use Rattle.gier_exec.specs.Reading.{CanRead, Reads, seen};
+ghost use Rattle.gier_exec.specs.declared.stop.Miss.TheVariants.{Drum as DrumFailed, Stop as Stopped};
+ghost use Rattle.gier_exec.specs.declared.stop.Quit.TheVariants.{Miss as Missed, Read, Write};
+ghost use Rattle.gier_exec.specs.declared.stop.Stop.TheVariants.{Odd};
+
+use crate::Machine;
+use crate::activations::{leave_evaluation, leave_procedure, leave_variable};
+use crate::calls::call;
+use crate::evaluations::{choose, evaluate};
+use crate::jumps::{go, jump, jump_if_false, turn};
+use crate::kinds::{compare, look_at_kind};
+use crate::library::library;
+use crate::reading::fetch;
+use crate::stop::{Miss, ODD, Quit, Stop};
+use crate::values::plain;
+use gier_best::Trace;
+use gier_drum::Drum;
+use gier_frames::Frames;
+use gier_io::{Sink, Source};
+use gier_library::Data;
+use gier_order::{Object, Operation, Order, Recent};
+use gier_places::Places;
+
+/// Carries out an order, and gives the address of the next one.
+pub(crate) fn execute<D: Drum, S: Source, K: Sink>(
+    m: &mut Machine,
+    frames: &mut Frames,
+    object: &Object,
+    drum: &mut D,
+    places: &mut Places,
+    recent: &mut Recent,
+    trace: &mut Trace,
+    input: &mut Data<S>,
+    out: &mut K,
+    order: Order,
+) -> Result<u32, Quit>
+    requires order { IsOrder order }
+    requires place { m.old.place < object.now.words }
+    requires can { CanRead (2 * object.now.words + 1) object.now (seen D.room D.tracks D.journal D.faults drum.old places.old recent.old trace.old) }
+    ensures keeps { Keeps m.old m.new }
+    ensures goes { IfOk result (λ next. Goes object.now.words m.old next m.new) }
+    ensures size { length frames.new.words ≡ length frames.old.words }
+    ensures reads { Reads (2 * object.now.words + 1) object.now (seen D.room D.tracks D.journal D.faults drum.old places.old recent.old trace.old) (seen D.room D.tracks D.journal D.faults drum.new places.new recent.new trace.new) }
+    ensures same_reference { input.new.source.ghost_name ≡ input.old.source.ghost_name }
+    ensures source_later { S.faults (source_of input.old) ≤ S.faults (source_of input.new) }
+    ensures source_failed { result ≡ Err Read → HasRisen (S.faults (source_of input.old)) (S.faults (source_of input.new)) }
+    ensures sink_later { K.faults out.old ≤ K.faults out.new }
+    ensures sink_failed { result ≡ Err Write → HasRisen (K.faults out.old) (K.faults out.new) }
+    ensures failed { result ≡ Err (Missed DrumFailed) → HasRisen (D.faults drum.old) (D.faults drum.new) }
+    ensures spoilt { result ≡ Err (Missed (Stopped Odd)) → (m.new ≡ m.old) × ((frames.new ≡ frames.old) × ((out.new ≡ out.old) × (input.new ≡ input.old))) }
+{
+    let operation = order.operation();
+    if operation == Operation::Lib {
+        return procedure(
+            m,
+            frames,
+            object,
+            drum,
+            places,
+            recent,
+            trace,
+            input,
+            out,
+            order.address,
+        );
+    }
+    if frames.here(0).is_err() && operation != Operation::Start {
+        return Err(Quit::Miss(ODD));
+    }
+    match dispatch(
+        m, frames, object, drum, places, recent, trace, operation, order,
+    ) {
+        Ok(next) => Ok(next),
+        Err(miss) => Err(Quit::Miss(miss)),
+    }
+}
+
+// LIB.
+#[tactic(auto, using(crate::proofs::Falling::lighter_falls))]
+fn procedure<D: Drum, S: Source, K: Sink>(
+    m: &mut Machine,
+    frames: &Frames,
+    object: &Object,
+    drum: &mut D,
+    places: &mut Places,
+    recent: &mut Recent,
+    trace: &mut Trace,
+    input: &mut Data<S>,
+    out: &mut K,
+    number: u32,
+) -> Result<u32, Quit>
+    requires place { m.old.place < object.now.words }
+    requires can { CanRead (object.now.words + 1) object.now (seen D.room D.tracks D.journal D.faults drum.old places.old recent.old trace.old) }
+    ensures keeps { Keeps m.old m.new }
+    ensures goes { IfOk result (λ next. Goes object.now.words m.old next m.new) }
+    ensures reads { Reads (object.now.words + 1) object.now (seen D.room D.tracks D.journal D.faults drum.old places.old recent.old trace.old) (seen D.room D.tracks D.journal D.faults drum.new places.new recent.new trace.new) }
+    ensures same_reference { input.new.source.ghost_name ≡ input.old.source.ghost_name }
+    ensures source_later { S.faults (source_of input.old) ≤ S.faults (source_of input.new) }
+    ensures source_failed { result ≡ Err Read → HasRisen (S.faults (source_of input.old)) (S.faults (source_of input.new)) }
+    ensures sink_later { K.faults out.old ≤ K.faults out.new }
+    ensures sink_failed { result ≡ Err Write → HasRisen (K.faults out.old) (K.faults out.new) }
+    ensures failed { result ≡ Err (Missed DrumFailed) → HasRisen (D.faults drum.old) (D.faults drum.new) }
+    ensures odd { result ≡ Err (Missed (Stopped Odd)) → (m.new ≡ m.old) × ((out.new ≡ out.old) × (input.new ≡ input.old)) }
+{
+    if frames.here(0).is_err() || m.behind() >= u64::from(object.words) {
+        return Err(Quit::Miss(ODD));
+    }
+    match library(m, object, drum, places, recent, trace, input, out, number) {
+        Ok(()) => Ok(m.place() + 1),
+        Err(quit) => Err(quit),
+    }
+}
+
+// The orders other than LIB.
+fn dispatch<D: Drum>(
+    m: &mut Machine,
+    frames: &mut Frames,
+    object: &Object,
+    drum: &mut D,
+    places: &mut Places,
+    recent: &mut Recent,
+    trace: &mut Trace,
+    operation: Operation,
+    order: Order,
+) -> Result<u32, Miss>
+    requires order { IsOrder order }
+    requires place { m.old.place < object.now.words }
+    requires can { CanRead (2 * object.now.words + 1) object.now (seen D.room D.tracks D.journal D.faults drum.old places.old recent.old trace.old) }
+    ensures keeps { Keeps m.old m.new }
+    ensures goes { IfOk result (λ next. Goes object.now.words m.old next m.new) }
+    ensures size { length frames.new.words ≡ length frames.old.words }
+    ensures reads { Reads (2 * object.now.words + 1) object.now (seen D.room D.tracks D.journal D.faults drum.old places.old recent.old trace.old) (seen D.room D.tracks D.journal D.faults drum.new places.new recent.new trace.new) }
+    ensures failed { result ≡ Err DrumFailed → HasRisen (D.faults drum.old) (D.faults drum.new) }
+    ensures odd { result ≡ Err (Stopped Odd) → (m.new ≡ m.old) × (frames.new ≡ frames.old) }
+{
+    match operation {
+        Operation::Jump
+        | Operation::False
+        | Operation::Turn
+        | Operation::Go
+        | Operation::Return
+        | Operation::Back
+        | Operation::Give => move_on(m, frames, operation, order, object.words),
+        Operation::Value | Operation::Place | Operation::NameL | Operation::Pass => {
+            evaluate(
+                m, frames, object, drum, places, recent, trace, operation, order,
+            )
+        }
+        Operation::Call | Operation::Formal | Operation::CallF => {
+            call(
+                m, frames, object, drum, places, recent, trace, operation, order,
+            )
+        }
+        Operation::Switch | Operation::SwForm => {
+            choose(
+                m, frames, object, drum, places, recent, trace, operation, order,
+            )
+        }
+        Operation::Long => long(m, object, drum, places, recent, trace),
+        Operation::Agree => compare(m, frames, object, drum, places, recent, trace, order),
+        Operation::ByVal => look_at_kind(m, frames, object, drum, places, recent, trace, order),
+        Operation::Stop => Err(Miss::Stop(Stop::Ended)),
+        Operation::Proc | Operation::Thunk | Operation::Kinds => Err(ODD),
+        _ => go_on(m, frames, operation, order, object.words),
+    }
+}
+
+// The orders that read nothing of the object and may choose the place of the next one.
+fn move_on(
+    m: &mut Machine,
+    frames: &mut Frames,
+    operation: Operation,
+    order: Order,
+    words: u32,
+) -> Result<u32, Miss>
+    ensures keeps { Keeps m.old m.new }
+    ensures goes { IfOk result (λ next. Goes words m.old next m.new) }
+    ensures size { length frames.new.words ≡ length frames.old.words }
+    ensures homely { result ≢ Err DrumFailed }
+    ensures odd { result ≡ Err (Stopped Odd) → (m.new ≡ m.old) × (frames.new ≡ frames.old) }
+{
+    match choose_next(m, frames, operation, order, words) {
+        Ok(next) => Ok(next),
+        Err(stop) => Err(Miss::Stop(stop)),
+    }
+}
+
+fn choose_next(
+    m: &mut Machine,
+    frames: &mut Frames,
+    operation: Operation,
+    order: Order,
+    words: u32,
+) -> Result<u32, Stop>
+    ensures keeps { Keeps m.old m.new }
+    ensures goes { IfOk result (λ next. Goes words m.old next m.new) }
+    ensures size { length frames.new.words ≡ length frames.old.words }
+    ensures odd { result ≡ Err Odd → (m.new ≡ m.old) × (frames.new ≡ frames.old) }
+{
+    match operation {
+        Operation::Jump => jump(m, order.address, words),
+        Operation::False => jump_if_false(m, order.address, words),
+        Operation::Turn => turn(m, frames, order.address, words),
+        Operation::Go => go(m, frames, words),
+        Operation::Return => leave_procedure(m, frames, order.address, words),
+        Operation::Give => leave_variable(m, frames, words),
+        _ => leave_evaluation(m, frames, words),
+    }
+}
+
+// The orders that read nothing of the object and go on with the next one.
+#[tactic(auto, using(crate::proofs::Falling::lighter_falls))]
+fn go_on(
+    m: &mut Machine,
+    frames: &mut Frames,
+    operation: Operation,
+    order: Order,
+    words: u32,
+) -> Result<u32, Miss>
+    requires { IsOrder order }
+    ensures keeps { Keeps m.old m.new }
+    ensures goes { IfOk result (λ next. Goes words m.old next m.new) }
+    ensures size { length frames.new.words ≡ length frames.old.words }
+    ensures homely { result ≢ Err DrumFailed }
+    ensures odd { result ≡ Err (Stopped Odd) → (m.new ≡ m.old) × (frames.new ≡ frames.old) }
+{
+    if m.behind() >= u64::from(words) {
+        return Err(ODD);
+    }
+    match plain(m, frames, operation, order) {
+        Ok(()) => Ok(m.place() + 1),
+        Err(stop) => Err(Miss::Stop(stop)),
+    }
+}
+
+// LONG: R := the word behind the order, which is passed over.
+#[tactic(auto, using(crate::proofs::Falling::lighter_falls))]
+fn long<D: Drum>(
+    m: &mut Machine,
+    object: &Object,
+    drum: &mut D,
+    places: &mut Places,
+    recent: &mut Recent,
+    trace: &mut Trace,
+) -> Result<u32, Miss>
+    requires place { m.old.place < object.now.words }
+    requires can { CanRead 1 object.now (seen D.room D.tracks D.journal D.faults drum.old places.old recent.old trace.old) }
+    ensures keeps { Keeps m.old m.new }
+    ensures goes { IfOk result (λ next. Goes object.now.words m.old next m.new) }
+    ensures reads { Reads 1 object.now (seen D.room D.tracks D.journal D.faults drum.old places.old recent.old trace.old) (seen D.room D.tracks D.journal D.faults drum.new places.new recent.new trace.new) }
+    ensures failed { result ≡ Err DrumFailed → HasRisen (D.faults drum.old) (D.faults drum.new) }
+    ensures odd { result ≡ Err (Stopped Odd) → m.new ≡ m.old }
+{
+    let word = match fetch(object, drum, places, recent, trace, m.behind()) {
+        Ok(word) => word,
+        Err(miss) => return Err(miss),
+    };
+    match m.ahead(m.behind() + 1, object.words) {
+        Ok(next) => {
+            m.set_r(word);
+            Ok(next)
+        }
+        Err(stop) => Err(Miss::Stop(stop)),
+    }
+}

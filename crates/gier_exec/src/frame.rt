@@ -1,0 +1,126 @@
+// Single words of the frames, as the orders read and write them.
+ghost use Rattle.std.specs.Prelude.{◌≡◌, ◌+◌, ◌<◌, ◌^◌, IfOk, OnErr, length};
+
+use crate::stop::Stop;
+use gier_frames::{Frames, Halt};
+
+/// The word at an address of the current activation.
+#[inline]
+pub(crate) fn local(frames: &Frames, address: u32) -> Result<u64, Stop>
+    ensures { IfOk result (λ word. word < 2 ^ 40) }
+{
+    match frames.here(address) {
+        Ok(place) => read(frames, place),
+        Err(halt) => Err(Stop::from(halt)),
+    }
+}
+
+/// The word at a place.
+#[inline]
+pub(crate) fn read(frames: &Frames, place: u64) -> Result<u64, Stop>
+    ensures { IfOk result (λ word. word < 2 ^ 40) }
+{
+    match frames.get(place) {
+        Ok(word) => Ok(word),
+        Err(halt) => Err(Stop::from(halt)),
+    }
+}
+
+/// The place at an address in the visible activation of a level.
+#[inline]
+pub(crate) fn place_of(frames: &Frames, level: u8, address: u32) -> Result<u64, Stop>
+    ensures { IfOk result (λ place. place < 2 ^ 40) }
+{
+    match frames.cell(level, address) {
+        Ok(place) => as_word(place),
+        Err(halt) => Err(Stop::from(halt)),
+    }
+}
+
+/// The place at an address in the current activation.
+#[inline]
+pub(crate) fn here(frames: &Frames, address: u32) -> Result<u64, Stop>
+    ensures { IfOk result (λ place. place < 2 ^ 40) }
+{
+    match frames.here(address) {
+        Ok(place) => as_word(place),
+        Err(halt) => Err(Stop::from(halt)),
+    }
+}
+
+/// A place as a word, which R and Q may be.
+#[inline]
+pub(crate) fn as_word(place: u64) -> Result<u64, Stop>
+    ensures { IfOk result (λ word. word < 2 ^ 40) }
+{
+    if place < WORDS {
+        Ok(place)
+    } else {
+        Err(Stop::Odd)
+    }
+}
+
+/// The two words from an address on in the visible activation of a level: an address of the object, and a base.
+pub(crate) fn read_pair(frames: &Frames, level: u8, address: u32) -> Result<(u64, u64), Stop>
+    ensures first { IfOk result (λ pair. pair.0 < 2 ^ 40) }
+    ensures second { IfOk result (λ pair. pair.1 < 2 ^ 40) }
+{
+    let place = match place_of(frames, level, address) {
+        Ok(place) => place,
+        Err(stop) => return Err(stop),
+    };
+    let first = match read(frames, place) {
+        Ok(word) => word,
+        Err(stop) => return Err(stop),
+    };
+    match read(frames, place + 1) {
+        Ok(second) => Ok((first, second)),
+        Err(stop) => Err(stop),
+    }
+}
+
+/// Writes a word at a place.
+#[inline]
+pub(crate) fn write(frames: &mut Frames, place: u64, word: u64) -> Result<(), Stop>
+    requires { word < 2 ^ 40 }
+    ensures size { length frames.new.words ≡ length frames.old.words }
+    ensures odd { OnErr result (frames.new ≡ frames.old) }
+{
+    match frames.set(place, word) {
+        Ok(()) => Ok(()),
+        Err(halt) => Err(Stop::from(halt)),
+    }
+}
+
+/// Whether an activation of a procedure or an evaluation can be entered, apart from the free words.
+pub(crate) fn can_enter(frames: &Frames, room: u32, outer: u64, from: u32, count: u32) -> bool {
+    if count > MOST_COUNT || room < CALL_HEADER + count || frames.get(outer).is_err() {
+        return false;
+    }
+    let Ok(first) = here(frames, from) else {
+        return false;
+    };
+    count < 2 || frames.get(first + u64::from(count / 2 * 2) - 1).is_ok()
+}
+
+/// Whether a label of the activation at `base` can be gone to.
+pub(crate) fn can_go(frames: &Frames, base: u64) -> bool
+    requires { base < 2 ^ 40 }
+{
+    match frames.get(base + END) {
+        Ok(top) => top == 0 || frames.get(top - 1).is_ok(),
+        Err(_) => false,
+    }
+}
+
+// Words are below this.
+const WORDS: u64 = 1 << 40;
+
+// The greatest number that tells what a procedure takes.
+pub(crate) const MOST_COUNT: u32 = 511;
+
+// The words of a header with the order to return to and what is wanted.
+const CALL_HEADER: u32 = 5;
+
+// Where a header tells the first word after its activation.
+const END: u64 = 2;

@@ -1,0 +1,94 @@
+// The orders that choose the place of the next one and read nothing of the object.
+ghost use Rattle.std.specs.Prelude.{◌≡◌, ◌+◌, ◌<◌, ◌≤◌, ◌^◌, IfOk, Err, length};
+ghost use Rattle.gier_exec.specs.Registers.{Keeps, Goes};
+ghost use Rattle.gier_exec.specs.declared.stop.Stop.TheVariants.{Odd};
+
+use crate::Machine;
+use crate::frame::{can_go, local};
+use crate::machine::address_of;
+use crate::stop::Stop;
+use gier_frames::Frames;
+
+/// JUMP: goes on at an address ahead.
+pub(crate) fn jump(m: &Machine, address: u32, words: u32) -> Result<u32, Stop>
+    ensures { IfOk result (λ next. Goes words m.now next m.now) }
+{
+    if address > m.place() {
+        m.ahead(u64::from(address), words)
+    } else {
+        Err(Stop::Odd)
+    }
+}
+
+/// FALSE: where R is 0, goes on at an address ahead.
+pub(crate) fn jump_if_false(m: &Machine, address: u32, words: u32) -> Result<u32, Stop>
+    ensures { IfOk result (λ next. Goes words m.now next m.now) }
+{
+    if m.r() == 0 {
+        jump(m, address, words)
+    } else {
+        m.ahead(m.behind(), words)
+    }
+}
+
+/// TURN: charges a step and goes on at w.
+#[tactic(auto, using(crate::proofs::Falling::paid_falls))]
+pub(crate) fn turn(m: &mut Machine, frames: &Frames, address: u32, words: u32) -> Result<u32, Stop>
+    ensures keeps { Keeps m.old m.new }
+    ensures goes { IfOk result (λ next. Goes words m.old next m.new) }
+    ensures odd { result ≡ Err Odd → m.new ≡ m.old }
+{
+    let word = match local(frames, address) {
+        Ok(word) => word,
+        Err(stop) => return Err(stop),
+    };
+    let next = match address_of(word, words) {
+        Ok(next) => next,
+        Err(stop) => return Err(stop),
+    };
+    if m.steps_left() == 0 {
+        return Err(Stop::Steps);
+    }
+    m.charge();
+    Ok(next)
+}
+
+/// GO: where R is not 0, charges a step and goes to the label that R and Q are.
+pub(crate) fn go(m: &mut Machine, frames: &mut Frames, words: u32) -> Result<u32, Stop>
+    ensures keeps { Keeps m.old m.new }
+    ensures goes { IfOk result (λ next. Goes words m.old next m.new) }
+    ensures size { length frames.new.words ≡ length frames.old.words }
+    ensures odd { result ≡ Err Odd → (m.new ≡ m.old) × (frames.new ≡ frames.old) }
+{
+    if m.r() == 0 {
+        return m.ahead(m.behind(), words);
+    }
+    match address_of(m.r(), words) {
+        Ok(next) => go_to(m, frames, next, words),
+        Err(stop) => Err(stop),
+    }
+}
+
+#[tactic(auto, using(crate::proofs::Falling::paid_falls))]
+fn go_to(m: &mut Machine, frames: &mut Frames, next: u32, words: u32) -> Result<u32, Stop>
+    requires { next < words }
+    ensures keeps { Keeps m.old m.new }
+    ensures goes { IfOk result (λ at. Goes words m.old at m.new) }
+    ensures size { length frames.new.words ≡ length frames.old.words }
+    ensures odd { result ≡ Err Odd → (m.new ≡ m.old) × (frames.new ≡ frames.old) }
+{
+    if m.steps_left() == 0 {
+        return if can_go(frames, m.q()) {
+            Err(Stop::Steps)
+        } else {
+            Err(Stop::Odd)
+        };
+    }
+    match frames.go(m.q()) {
+        Ok(()) => {
+            m.charge();
+            Ok(next)
+        }
+        Err(halt) => Err(Stop::from(halt)),
+    }
+}

@@ -1,0 +1,338 @@
+// The packed kinds of formals and actuals: AGREE compares them, and BYVAL looks at one.
+ghost use Rattle.std.specs.Prelude.{◌≡◌, ◌+◌, ◌*◌, ◌/◌, ◌<◌, ◌≤◌, ◌^◌, IfOk, OnOk, Err};
+ghost use Rattle.gier_word.specs.Cause.{HasRisen};
+ghost use Rattle.gier_order.specs.Codes.{IsOrder};
+ghost use Rattle.gier_exec.specs.Registers.{Keeps, Goes};
+ghost use Rattle.gier_exec.specs.Reading.{CanRead, Reads, seen};
+ghost use Rattle.gier_exec.specs.declared.stop.Miss.TheVariants.{Drum as DrumFailed, Stop as Stopped};
+ghost use Rattle.gier_exec.specs.declared.stop.Stop.TheVariants.{Odd};
+
+use crate::Machine;
+use crate::calls::{fetch_kinds, formals_of};
+use crate::frame::{place_of, read};
+use crate::reading::{fetch, fetch_order};
+use crate::stop::{Miss, ODD, Stop};
+use gier_agree::{agree, kind_at};
+use gier_best::Trace;
+use gier_drum::Drum;
+use gier_frames::Frames;
+use gier_order::{Object, Order, Recent};
+use gier_places::Places;
+use gier_word::Alarm;
+
+// How many kinds stand in a word.
+const GROUP: u64 = 10;
+
+// The most actuals of a call.
+const MOST_ACTUALS: u64 = 255;
+
+// The kinds of formals and of actuals begin with these, and both end with the last.
+const FIRST_FORMAL: u8 = 1;
+
+const FIRST_ACTUAL: u8 = 3;
+
+const LAST_KIND: u8 = 12;
+
+// The last kind of a formal by value.
+const LAST_BY_VALUE: u8 = 2;
+
+/// AGREE: compares the packed kinds behind it with those of the formal procedure in cell; alarm `parameters`.
+pub(crate) fn compare<D: Drum>(
+    m: &Machine,
+    frames: &Frames,
+    object: &Object,
+    drum: &mut D,
+    places: &mut Places,
+    recent: &mut Recent,
+    trace: &mut Trace,
+    order: Order,
+) -> Result<u32, Miss>
+    requires order { IsOrder order }
+    requires place { m.now.place < object.now.words }
+    requires can { CanRead (2 * object.now.words) object.now (seen D.room D.tracks D.journal D.faults drum.old places.old recent.old trace.old) }
+    ensures goes { IfOk result (λ next. Goes object.now.words m.now next m.now) }
+    ensures reads { Reads (2 * object.now.words) object.now (seen D.room D.tracks D.journal D.faults drum.old places.old recent.old trace.old) (seen D.room D.tracks D.journal D.faults drum.new places.new recent.new trace.new) }
+    ensures failed { result ≡ Err DrumFailed → HasRisen (D.faults drum.old) (D.faults drum.new) }
+{
+    let list = m.behind();
+    let count = match fetch(object, drum, places, recent, trace, list) {
+        Ok(count) => count,
+        Err(miss) => return Err(miss),
+    };
+    let address = match formal_address(frames, order) {
+        Ok(address) => address,
+        Err(stop) => return Err(Miss::Stop(stop)),
+    };
+    match match_count(object, drum, places, recent, trace, address, count) {
+        Ok(()) => {}
+        Err(miss) => return Err(miss),
+    }
+    let groups = count.div_ceil(GROUP);
+    let next = match m.ahead(list + 1 + groups, object.words) {
+        Ok(next) => next,
+        Err(stop) => return Err(Miss::Stop(stop)),
+    };
+    match compare_groups(
+        object,
+        drum,
+        places,
+        recent,
+        trace,
+        address + 1,
+        list + 1,
+        count,
+    ) {
+        Ok(()) => Ok(next),
+        Err(miss) => Err(miss),
+    }
+}
+
+// The address in cell, which is that of a procedure that was handed over.
+fn formal_address(frames: &Frames, order: Order) -> Result<u64, Stop>
+    requires { IsOrder order }
+    ensures { IfOk result (λ address. address < 2 ^ 40) }
+{
+    match place_of(frames, order.level, order.address) {
+        Ok(place) => read(frames, place),
+        Err(stop) => Err(stop),
+    }
+}
+
+// Whether the procedure at an address has so many formals; alarm `parameters` where it has not.
+fn match_count<D: Drum>(
+    object: &Object,
+    drum: &mut D,
+    places: &mut Places,
+    recent: &mut Recent,
+    trace: &mut Trace,
+    address: u64,
+    count: u64,
+) -> Result<(), Miss>
+    requires can { CanRead 1 object.now (seen D.room D.tracks D.journal D.faults drum.old places.old recent.old trace.old) }
+    ensures few { OnOk result (count ≤ 80) }
+    ensures some { OnOk result (1 ≤ count) }
+    ensures reads { Reads 1 object.now (seen D.room D.tracks D.journal D.faults drum.old places.old recent.old trace.old) (seen D.room D.tracks D.journal D.faults drum.new places.new recent.new trace.new) }
+    ensures failed { result ≡ Err DrumFailed → HasRisen (D.faults drum.old) (D.faults drum.new) }
+{
+    let head = match fetch_order(object, drum, places, recent, trace, address) {
+        Ok(head) => head,
+        Err(miss) => return Err(miss),
+    };
+    let formals = match formals_of(head) {
+        Ok(formals) => formals,
+        Err(stop) => return Err(Miss::Stop(stop)),
+    };
+    if count == 0 || count > MOST_ACTUALS {
+        return Err(ODD);
+    }
+    match formals {
+        Some(n) if u64::from(n) == count => Ok(()),
+        _ => Err(Miss::Stop(Stop::Alarm(Alarm::Parameters))),
+    }
+}
+
+// Compares so many kinds, ten by ten, from the words at these two addresses on.
+fn compare_groups<D: Drum>(
+    object: &Object,
+    drum: &mut D,
+    places: &mut Places,
+    recent: &mut Recent,
+    trace: &mut Trace,
+    formals: u64,
+    actuals: u64,
+    count: u64,
+) -> Result<(), Miss>
+    requires few { count ≤ 255 }
+    requires formals { formals ≤ 2 ^ 40 }
+    requires actuals { actuals ≤ 2 ^ 40 }
+    requires can { CanRead (2 * ((count + 9) / 10)) object.now (seen D.room D.tracks D.journal D.faults drum.old places.old recent.old trace.old) }
+    ensures reads { Reads (2 * ((count + 9) / 10)) object.now (seen D.room D.tracks D.journal D.faults drum.old places.old recent.old trace.old) (seen D.room D.tracks D.journal D.faults drum.new places.new recent.new trace.new) }
+    ensures failed { result ≡ Err DrumFailed → HasRisen (D.faults drum.old) (D.faults drum.new) }
+{
+    for group in 0..count.div_ceil(GROUP) {
+        match compare_group(
+            object,
+            drum,
+            places,
+            recent,
+            trace,
+            formals + group,
+            actuals + group,
+            count - group * GROUP,
+        ) {
+            Ok(()) => {}
+            Err(miss) => return Err(miss),
+        }
+    }
+    Ok(())
+}
+
+// Compares the kinds of one word with those of another; so many kinds are left.
+fn compare_group<D: Drum>(
+    object: &Object,
+    drum: &mut D,
+    places: &mut Places,
+    recent: &mut Recent,
+    trace: &mut Trace,
+    formals: u64,
+    actuals: u64,
+    left: u64,
+) -> Result<(), Miss>
+    requires can { CanRead 2 object.now (seen D.room D.tracks D.journal D.faults drum.old places.old recent.old trace.old) }
+    ensures reads { Reads 2 object.now (seen D.room D.tracks D.journal D.faults drum.old places.old recent.old trace.old) (seen D.room D.tracks D.journal D.faults drum.new places.new recent.new trace.new) }
+    ensures failed { result ≡ Err DrumFailed → HasRisen (D.faults drum.old) (D.faults drum.new) }
+{
+    let formals = match fetch_packed(
+        object,
+        drum,
+        places,
+        recent,
+        trace,
+        formals,
+        left,
+        FIRST_FORMAL,
+    ) {
+        Ok(word) => word,
+        Err(miss) => return Err(miss),
+    };
+    let actuals = match fetch_packed(
+        object,
+        drum,
+        places,
+        recent,
+        trace,
+        actuals,
+        left,
+        FIRST_ACTUAL,
+    ) {
+        Ok(word) => word,
+        Err(miss) => return Err(miss),
+    };
+    if agree(formals, actuals) {
+        Ok(())
+    } else {
+        Err(Miss::Stop(Stop::Alarm(Alarm::Parameters)))
+    }
+}
+
+// A word of packed kinds, of which so many are left; odd where one of them isn't from `first` to 12, or where a field behind the
+// last one isn't 0.
+fn fetch_packed<D: Drum>(
+    object: &Object,
+    drum: &mut D,
+    places: &mut Places,
+    recent: &mut Recent,
+    trace: &mut Trace,
+    address: u64,
+    left: u64,
+    first: u8,
+) -> Result<u64, Miss>
+    requires can { CanRead 1 object.now (seen D.room D.tracks D.journal D.faults drum.old places.old recent.old trace.old) }
+    ensures reads { Reads 1 object.now (seen D.room D.tracks D.journal D.faults drum.old places.old recent.old trace.old) (seen D.room D.tracks D.journal D.faults drum.new places.new recent.new trace.new) }
+    ensures failed { result ≡ Err DrumFailed → HasRisen (D.faults drum.old) (D.faults drum.new) }
+{
+    let word = match fetch(object, drum, places, recent, trace, address) {
+        Ok(word) => word,
+        Err(miss) => return Err(miss),
+    };
+    if are_kinds(word, left, first) {
+        Ok(word)
+    } else {
+        Err(ODD)
+    }
+}
+
+// Whether the first `left` fields of a word are kinds from `first` on, and the others 0.
+fn are_kinds(word: u64, left: u64, first: u8) -> bool {
+    for at in 0..GROUP as u8 {
+        let kind = kind_at(word, at);
+        let right = if u64::from(at) < left {
+            kind >= first && kind <= LAST_KIND
+        } else {
+            kind == 0
+        };
+        if !right {
+            return false;
+        }
+    }
+    true
+}
+
+/// BYVAL: R := 1 where formal R of the formal procedure in cell is by value, else 0.
+pub(crate) fn look_at_kind<D: Drum>(
+    m: &mut Machine,
+    frames: &Frames,
+    object: &Object,
+    drum: &mut D,
+    places: &mut Places,
+    recent: &mut Recent,
+    trace: &mut Trace,
+    order: Order,
+) -> Result<u32, Miss>
+    requires order { IsOrder order }
+    requires place { m.old.place < object.now.words }
+    requires can { CanRead 2 object.now (seen D.room D.tracks D.journal D.faults drum.old places.old recent.old trace.old) }
+    ensures keeps { Keeps m.old m.new }
+    ensures goes { IfOk result (λ next. Goes object.now.words m.old next m.new) }
+    ensures reads { Reads 2 object.now (seen D.room D.tracks D.journal D.faults drum.old places.old recent.old trace.old) (seen D.room D.tracks D.journal D.faults drum.new places.new recent.new trace.new) }
+    ensures failed { result ≡ Err DrumFailed → HasRisen (D.faults drum.old) (D.faults drum.new) }
+    ensures odd { result ≡ Err (Stopped Odd) → m.new ≡ m.old }
+{
+    let address = match formal_address(frames, order) {
+        Ok(address) => address,
+        Err(stop) => return Err(Miss::Stop(stop)),
+    };
+    let kinds = match fetch_kinds(object, drum, places, recent, trace, address) {
+        Ok(kinds) => kinds,
+        Err(miss) => return Err(miss),
+    };
+    let count = u64::from(kinds.level);
+    if m.r() == 0 || m.r() > count {
+        return Err(ODD);
+    }
+    let next = match m.ahead(m.behind(), object.words) {
+        Ok(next) => next,
+        Err(stop) => return Err(Miss::Stop(stop)),
+    };
+    let at = m.r() - 1;
+    let kind = match fetch_kind(object, drum, places, recent, trace, address + 1, at, count) {
+        Ok(kind) => kind,
+        Err(miss) => return Err(miss),
+    };
+    m.set_r(u64::from(kind <= LAST_BY_VALUE));
+    Ok(next)
+}
+
+// The kind with a number, from 0, of so many that are packed from an address on.
+fn fetch_kind<D: Drum>(
+    object: &Object,
+    drum: &mut D,
+    places: &mut Places,
+    recent: &mut Recent,
+    trace: &mut Trace,
+    list: u64,
+    at: u64,
+    count: u64,
+) -> Result<u8, Miss>
+    requires within { at < count }
+    requires few { count ≤ 80 }
+    requires list { list ≤ 2 ^ 40 }
+    requires can { CanRead 1 object.now (seen D.room D.tracks D.journal D.faults drum.old places.old recent.old trace.old) }
+    ensures reads { Reads 1 object.now (seen D.room D.tracks D.journal D.faults drum.old places.old recent.old trace.old) (seen D.room D.tracks D.journal D.faults drum.new places.new recent.new trace.new) }
+    ensures failed { result ≡ Err DrumFailed → HasRisen (D.faults drum.old) (D.faults drum.new) }
+{
+    let group = at / GROUP;
+    match fetch_packed(
+        object,
+        drum,
+        places,
+        recent,
+        trace,
+        list + group,
+        count - group * GROUP,
+        FIRST_FORMAL,
+    ) {
+        Ok(word) => Ok(kind_at(word, (at % GROUP) as u8)),
+        Err(miss) => Err(miss),
+    }
+}

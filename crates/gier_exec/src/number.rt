@@ -1,0 +1,93 @@
+// Words as numbers, and the orders that make a word of one or two others. No frames are touched here.
+ghost use Rattle.std.specs.Prelude.{◌≡◌, ◌<◌, ◌^◌, IfOk};
+ghost use Rattle.gier_word.specs.Words.{int_of_word};
+
+use gier_order::Operation;
+use gier_word::{Alarm, Int40, Spoil, Word40};
+
+/// The number that a word stands for.
+pub(crate) fn number_of(word: u64) -> Int40
+    requires { word < 2 ^ 40 }
+    ensures { result ≡ int_of_word word }
+{
+    match Word40::of(word) {
+        Some(word) => word.int(),
+        None => unreachable!(),
+    }
+}
+
+/// The word of a number.
+pub(crate) fn word_of(number: Int40) -> u64
+    ensures { result < 2 ^ 40 }
+{
+    number.word().bits()
+}
+
+// The word of a result, or the alarm in its place.
+fn answer(given: Result<Int40, Spoil>) -> Result<u64, Alarm>
+    ensures { IfOk result (λ word. word < 2 ^ 40) }
+{
+    match given {
+        Ok(number) => Ok(word_of(number)),
+        Err(spoil) => Err(Alarm::from(spoil)),
+    }
+}
+
+/// NEG.
+pub(crate) fn negative(r: u64) -> Result<u64, Alarm>
+    requires { r < 2 ^ 40 }
+    ensures { IfOk result (λ word. word < 2 ^ 40) }
+{
+    answer(number_of(r).neg())
+}
+
+/// TEST: 0 where `w * sign(r)` is above 0, else 1.
+pub(crate) fn tested(w: u64, r: u64) -> Result<u64, Alarm>
+    requires w { w < 2 ^ 40 }
+    requires r { r < 2 ^ 40 }
+    ensures { IfOk result (λ word. word < 2 ^ 40) }
+{
+    match number_of(w).mul(number_of(r).sign()) {
+        Ok(product) => Ok(u64::from(product.get() <= 0)),
+        Err(spoil) => Err(Alarm::from(spoil)),
+    }
+}
+
+/// ADD to POW; any other order is none of these and gives r.
+pub(crate) fn computed(operation: Operation, w: u64, r: u64) -> Result<u64, Alarm>
+    requires w { w < 2 ^ 40 }
+    requires r { r < 2 ^ 40 }
+    ensures { IfOk result (λ word. word < 2 ^ 40) }
+{
+    let a = number_of(w);
+    let b = number_of(r);
+    match operation {
+        Operation::Add => answer(a.add(b)),
+        Operation::Sub => answer(a.sub(b)),
+        Operation::Mul => answer(a.mul(b)),
+        Operation::Div => answer(a.div(b)),
+        Operation::Pow => answer(a.pow(b)),
+        _ => Ok(r),
+    }
+}
+
+/// LT to NE and AND to EQUIV: 1 or 0.
+pub(crate) fn holds(operation: Operation, w: u64, r: u64) -> bool
+    requires w { w < 2 ^ 40 }
+    requires r { r < 2 ^ 40 }
+{
+    let a = number_of(w).get();
+    let b = number_of(r).get();
+    match operation {
+        Operation::Lt => a < b,
+        Operation::Le => a <= b,
+        Operation::Eq => a == b,
+        Operation::Ge => a >= b,
+        Operation::Gt => a > b,
+        Operation::Ne => a != b,
+        Operation::And => a != 0 && b != 0,
+        Operation::Or => a != 0 || b != 0,
+        Operation::Impl => a == 0 || b != 0,
+        _ => (a == 0) == (b == 0),
+    }
+}
