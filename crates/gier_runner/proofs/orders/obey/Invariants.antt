@@ -1,0 +1,15 @@
+use Rattle.std.proofs.Common.{◌≡◌, ◌<◌}
+use Rattle.gier_library.specs.Seen.{source_of}
+use Rattle.gier_exec.specs.Registers.{measure}
+use Rattle.gier_runner.specs.Running.{Counted, OnlyReads, KeepsSizes, devices, parts}
+use Rattle.gier_runner.proofs.orders.obey.Given as goal
+
+abbrev pub invariant-loop-ending : goal.invariant-loop-ending
+invariant-loop-ending g l = (l.m.place < l.object.words) × Counted l.object.words l.m l.recent l.places
+    × KeepsSizes l.object.words (parts l.initial.m l.initial.frames l.initial.places l.initial.trace) (parts l.m l.frames l.places l.trace)
+    × OnlyReads (devices g.D.Drum.room g.D.Drum.tracks g.D.Drum.journal g.D.Drum.faults g.S.Source.faults g.K.Sink.faults l.initial.drum (source_of l.initial.input) l.initial.out)
+    (devices g.D.Drum.room g.D.Drum.tracks g.D.Drum.journal g.D.Drum.faults g.S.Source.faults g.K.Sink.faults l.drum (source_of l.input) l.out)
+    × (l.input.source.ghost_name ≡ l.initial.input.source.ghost_name)
+
+abbrev pub decreases-loop-ending : goal.decreases-loop-ending
+decreases-loop-ending g l = measure l.object.words l.m
