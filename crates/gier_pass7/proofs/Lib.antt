@@ -1,0 +1,3 @@
+pub mod Twelve
+pub mod Sending
+pub mod Standing

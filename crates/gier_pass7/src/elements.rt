@@ -1,0 +1,87 @@
+// Array elements and switch designators.
+ghost use Rattle.std.specs.Prelude.{◌≡◌};
+ghost use Rattle.gier_text.specs.Kept.{kept};
+
+use crate::kinds::{is_switch, value_type};
+use crate::names::{Held, Name};
+use crate::open::{NOTHING, Open, What};
+use crate::state::Work;
+use gier_order::Operation;
+use gier_text::Tables;
+use gier_tree::Kind;
+
+impl Work {
+    ghost use Rattle.gier_pass7.specs.Ready.{Ready, Going};
+
+    // The identifier of an array or switch, behind which subscripts begin.
+    pub(crate) fn subscripts_begin(&mut self, tables: &mut Tables, name: Name)
+        requires ready { Ready self.old (kept tables.old) }
+        ensures { Going self.old (kept tables.old) self.new (kept tables.new) }
+    {
+        self.operand_begins(tables);
+        let what = if is_switch(name.kind) {
+            What::SwitchDesignator
+        } else {
+            self.array_of(tables, name.kind, name.place, name.line);
+            self.keep_next(tables, name.line);
+            What::ArrayElement
+        };
+        self.push(
+            tables,
+            Open {
+                what,
+                line: name.line,
+                kind: name.kind,
+                place: name.place,
+                ..NOTHING
+            },
+        );
+    }
+
+    // A subscript ends.
+    pub(crate) fn subscript_ends(&mut self, tables: &mut Tables)
+        requires ready { Ready self.old (kept tables.old) }
+        ensures { Going self.old (kept tables.old) self.new (kept tables.new) }
+    {
+        let top = self.top(tables);
+        if top.what == What::ArrayElement {
+            self.keep_next(tables, top.line);
+        }
+    }
+
+    // All subscripts were taken.
+    pub(crate) fn subscripted(&mut self, tables: &mut Tables, count: u64)
+        requires ready { Ready self.old (kept tables.old) }
+        ensures { Going self.old (kept tables.old) self.new (kept tables.new) }
+    {
+        let top = self.top(tables);
+        self.pop(tables);
+        self.value = value_type(top.kind);
+        match top.what {
+            What::ArrayElement => self.element(tables, top, count),
+            What::SwitchDesignator => self.designator(tables, top),
+            _ => {}
+        }
+    }
+
+    fn element(&mut self, tables: &mut Tables, open: Open, count: u64)
+        requires ready { Ready self.old (kept tables.old) }
+        ensures { Going self.old (kept tables.old) self.new (kept tables.new) }
+    {
+        self.free = self.free.saturating_sub(count.saturating_add(1));
+        self.order(tables, Operation::Index, count, self.free, open.line);
+        self.held = Held::Element(open.line);
+    }
+
+    fn designator(&mut self, tables: &mut Tables, open: Open)
+        requires ready { Ready self.old (kept tables.old) }
+        ensures { Going self.old (kept tables.old) self.new (kept tables.new) }
+    {
+        if open.kind == Kind::Switch {
+            self.on_number(tables, Operation::Switch, open.place, open.line);
+        } else {
+            self.on_cell(tables, Operation::SwForm, open.place, open.line);
+        }
+        self.full = true;
+    }
+}

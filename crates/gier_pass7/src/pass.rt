@@ -1,0 +1,144 @@
+// The pass: how much it may still write, and how it is driven.
+ghost use Rattle.std.specs.Prelude.{◌≡◌, ◌≤◌, ◌+◌, ◌*◌, []};
+ghost use Rattle.gier_symbol.specs.Symbols.{IsSymbol};
+ghost use Rattle.gier_text.specs.Growth.{IsLight};
+ghost use Rattle.gier_text.specs.Kept.{kept, fresh};
+ghost use Rattle.gier_pass7.specs.Standing.{IsShort, Stands};
+
+use crate::kinds::ValueType;
+use crate::lists::{STACK_WIDTH, SYMBOL_WIDTH, WORD_WIDTH, outbox_room, record_room, room};
+use crate::names::Held;
+use crate::send::send;
+use crate::state::Work;
+use gier_symbol::{Alphabet, Coded};
+use gier_text::{Pass, PassStop, Tables, Text};
+
+// Labels that the program doesn't declare are numbered from here.
+const OTHER_LABELS: u64 = 1 << 23;
+
+/// Pass 7: takes text 6 forward, and writes text 7.
+///
+/// Its tables hold what is open, what was declared, and orders that may still change.
+#[derive(Debug, Drop)]
+pub struct Pass7 {
+    // How many symbols may still be written.
+    left: u32,
+    work: Work,
+}
+
+// The greatest number of symbols of text 7 of a program of so many bytes.
+fn most(bytes: u32) -> u32
+    requires { bytes ≤ 524288 }
+    ensures { result ≡ 24 * bytes + 64 }
+{
+    24 * bytes + 64
+}
+
+fn start(bytes: u32) -> Work
+    ensures { result.bytes ≡ bytes }
+{
+    Work {
+        bytes,
+        free: 0,
+        high: 0,
+        level: 0,
+        label: OTHER_LABELS,
+        number: 0,
+        address: 0,
+        room: 0,
+        words: 0,
+        line: 0,
+        pending: 0,
+        full: false,
+        value: ValueType::Unknown,
+        held: Held::Nothing,
+        entry: false,
+        recording: false,
+        text_at: 0,
+        text_label: 0,
+        text_length: 0,
+        text_word: 0,
+    }
+}
+
+impl Pass7 {
+    /// The pass over text 6 of a program of so many bytes. The tables must be cleared and hold no fault.
+    pub fn open(tables: &mut Tables, bytes: u32) -> Pass7
+        requires cleared { kept tables.old ≡ fresh (kept tables.old).limit }
+        requires bytes { bytes ≤ (kept tables.old).limit }
+        ensures stands { Stands result (kept tables.new) [] [] }
+        ensures bytes { result.work.bytes ≡ bytes }
+        ensures faults { (kept tables.new).faults ≡ [] }
+        ensures limit { (kept tables.new).limit ≡ (kept tables.old).limit }
+    {
+        tables.list(SYMBOL_WIDTH, outbox_room(bytes));
+        tables.list(SYMBOL_WIDTH, record_room(bytes));
+        tables.list(STACK_WIDTH, room(bytes));
+        tables.list(WORD_WIDTH, room(bytes));
+        tables.list(WORD_WIDTH, room(bytes));
+        tables.list(WORD_WIDTH, room(bytes));
+        Pass7 {
+            left: most(bytes),
+            work: start(bytes),
+        }
+    }
+}
+
+impl Pass for Pass7 {
+    type In = Coded<6>;
+
+    type Out = Coded<7>;
+
+    const GROWTH: u32 = 24;
+
+    ghost use Rattle.std.proofs.Common.{arith};
+
+    ghost GROWTH = { 24 };
+
+    ghost stands = { λ pass tables read written. Stands pass (kept tables) read written };
+
+    ghost relates = { λ pass tables read written. IsShort 7 pass.work.bytes written };
+
+    ghost expects = { λ pass list. IsLight 6 pass.work.bytes list };
+
+    ghost most = { λ pass. 24 * pass.work.bytes + 64 };
+
+    fn take<T: Text>(
+        &mut self,
+        s: Coded<6>,
+        store: &mut T::Store,
+        out: &mut T,
+        tables: &mut Tables,
+    ) -> Result<(), PassStop> {
+        self.work.step(tables, s.symbol());
+        if self.work.pending > 0 {
+            return Ok(());
+        }
+        match send(self.work.bytes, store, out, tables, self.left) {
+            Ok(left) => {
+                self.left = left;
+                Ok(())
+            }
+            Err(stop) => Err(stop),
+        }
+    }
+
+    fn end<T: Text>(
+        &mut self,
+        store: &mut T::Store,
+        out: &mut T,
+        tables: &mut Tables,
+    ) -> Result<(), PassStop> {
+        match send(self.work.bytes, store, out, tables, self.left) {
+            Ok(left) => {
+                self.left = left;
+                Ok(())
+            }
+            Err(stop) => Err(stop),
+        }
+    }
+
+    ghost slow = { Prim.omega arith };
+
+    ghost letters = { λ pass list h. h.letters };
+}
