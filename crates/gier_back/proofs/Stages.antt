@@ -1,0 +1,129 @@
+-- What a stage does, put together from the calls of texts and of the pass.
+use Rattle.std.proofs.Common.{false, ◌≡◌, ◌≤◌, ◌<◌, ◌++◌, ◌∙◌, ◌-◌, ◌/◌, ℕ, List, [], Option, None, Some, Result, Ok, Err, true, length, refl, sym, ap, subst, arith, inl, inr, reverse, append_assoc, ◌+◌}
+use Rattle.std.specs.Prelude.{IsErrOf, OnOk, IsTrue, is_some}
+use Rattle.std.proofs.lemmas.List.{length-reverse, get_or-reverse}
+use Rattle.gier_drum.specs.declared.drum.Entry.{Entry}
+use Rattle.gier_symbol.specs.declared.symbol.Symbol.{Symbol}
+use Rattle.gier_symbol.specs.Texts.{stands_in}
+use Rattle.gier_word.specs.declared.refusal.Odd.{Odd}
+use Rattle.gier_text.specs.declared.pass.PassStop.{PassStop}
+use Rattle.gier_text.specs.declared.pass.PassStop.TheVariants.{Drum, Memory, Full, Spoilt}
+use Rattle.gier_text.specs.Coded.{symbols_of, symbol_at, told, tracks_for}
+use Rattle.gier_text.specs.Driven.{SpoiltAs}
+use Rattle.gier_text.specs.Log.{LogsAll}
+use Rattle.gier_text.specs.Own.{listed_same, own_view}
+use Rattle.gier_text.specs.declared.text.Way.TheVariants.{Backward}
+use Rattle.gier_text.specs.View.{View, KeepsTracks, SameTracks, OrdersLeft}
+use Rattle.gier_text.proofs.Reading.{at_same, words_other}
+use Rattle.gier_pass7.specs.Standing.{IsShort as IsShortSeven}
+use Rattle.gier_pass8.specs.Standing.{IsShort}
+use Rattle.gier_back.specs.Stages.{Grows, Changes}
+use Rattle.gier_back.specs.declared.stop.BackStop.{BackStop}
+use Rattle.gier_back.specs.declared.stop.BackStop.TheVariants.{Drum as BackDrum}
+use Rattle.gier_back.specs.Stops.{stop_of, OnlyDrum, DrumOr, SpoiltAs as BackSpoiltAs}
+
+pub grows_more : (before mid after : Option (List Entry)) → Grows before mid → Grows mid after → Grows before after
+grows_more None mid after h k = (k.0, subst (λ m. LogsAll m k.0 after) h.1 k.1)
+grows_more (Some old) mid after h k = (h.0 ++ k.0, subst (λ m. LogsAll m k.0 after) h.1 k.1 ∙ ap Some (append_assoc old h.0 k.0))
+
+pub tracks_wider : (first to end : ℕ) (old new : Option (List (List ℕ))) → to ≤ end → KeepsTracks first to old new → KeepsTracks 0 end old new
+tracks_wider first to end old new le h = record {
+  told = h.told;
+  others = λ t out. h.others t (elim out [ inl before ↦ absurd (omega arith) | inr behind ↦ inr (omega arith) ]);
+}
+
+pub tracks_both : (end : ℕ) (old mid new : Option (List (List ℕ))) → KeepsTracks 0 end old mid → KeepsTracks 0 end mid new → KeepsTracks 0 end old new
+tracks_both end old mid new h k = record { told = k.told ∙ h.told; others = λ t out. k.others t out ∙ h.others t out }
+
+pub changes_more : {S : Type 0} (room : S → ℕ) (tracks : S → Option (List (List ℕ))) (journal : S → Option (List Entry)) (faults : S → ℕ) (end : ℕ) (old mid new : S) → Changes room tracks journal faults end old mid → Changes room tracks journal faults end mid new → Changes room tracks journal faults end old new
+changes_more room tracks journal faults end old mid new h k = record {
+  same_room = k.same_room ∙ h.same_room;
+  same_tracks = tracks_both end (tracks old) (tracks mid) (tracks new) h.same_tracks k.same_tracks;
+  logged = grows_more (journal old) (journal mid) (journal new) h.logged k.logged;
+  later = omega (arith, h.later, k.later);
+}
+
+-- what pass 7 writes is meant for pass 8, backward
+pub short_back : (text bytes : ℕ) (list : List Symbol) → IsShortSeven text bytes list → IsShort text bytes (reverse list)
+short_back text bytes list h = record {
+  letters = λ k d lt.
+      let within : k < length list = omega (arith, lt, length-reverse list) in
+      subst (λ s. IsTrue (stands_in text s.tag)) (sym (get_or-reverse list k d within)) (h.letters (length list - 1 - k) d (omega (arith, within)));
+  short = omega (arith, h.short, length-reverse list);
+}
+
+-- a text that isn't in the buffer stands on its tracks alone
+found_at : (tracks : List (List ℕ)) (first : ℕ) (buffer words : List ℕ) (i : ℕ) → symbol_at tracks first 0 buffer i ≡ symbol_at tracks first 0 words i
+found_at tracks first buffer words i = at_same tracks tracks first 0 0 buffer words i (words_other tracks first 0 buffer (i / 20) (λ m. absurd (omega arith)) ∙ sym (words_other tracks first 0 words (i / 20) (λ m. absurd (omega arith))))
+
+pub found_on : (tracks : Option (List (List ℕ))) (first loaded : ℕ) (buffer : List ℕ) (count : ℕ) → loaded ≡ 0 → told (symbols_of tracks first loaded buffer count) ≡ told (symbols_of tracks first 0 [] count)
+unfolding symbols_of
+found_on None first loaded buffer count none = refl
+found_on (Some tracks) first loaded buffer count none = rw none (ap (λ l. told (Some l)) (listed_same _ _ count (λ i below. found_at tracks first buffer [] i)))
+
+pub blank_on : (tracks : Option (List (List ℕ))) (first loaded : ℕ) (buffer : List ℕ) (count : ℕ) → count ≡ 0 → is_some tracks ≡ true → told (symbols_of tracks first loaded buffer count) ≡ Some []
+unfolding symbols_of
+blank_on None first loaded buffer count none told = cc
+blank_on (Some tracks) first loaded buffer count none told = rw none refl
+
+-- tracks are told where a text on them is
+pub told_on : (tracks : Option (List (List ℕ))) (first count : ℕ) (list : List Symbol) → told (symbols_of tracks first 0 [] count) ≡ Some list → is_some tracks ≡ true
+unfolding symbols_of
+told_on None first count list is = cc
+told_on (Some tracks) first count list is = refl
+
+-- a pass that never wants memory or is full is stopped by the drum, or by what it finds
+pub drum_or : (r : Result ℕ PassStop) (P : Odd → Type 0) → (r ≡ Err Memory → ⊥) → (r ≡ Err Full → ⊥) → SpoiltAs r P → DrumOr r P
+drum_or (Ok x) P memory full spoilt = tt
+drum_or (Err Drum) P memory full spoilt = tt
+drum_or (Err Memory) P memory full spoilt = memory refl
+drum_or (Err Full) P memory full spoilt = full refl
+drum_or (Err (Spoilt odd)) P memory full spoilt = spoilt
+
+-- what is left of a text that is read backward from its end
+pub left_back : (held : Option (List Symbol)) (list : List Symbol) (left : Option (List Symbol)) → held ≡ Some list → OrdersLeft held Backward left → left ≡ Some (reverse list)
+left_back None list left is orders = cc
+left_back (Some xs) list left is orders = let same : xs ≡ list = cc in subst (λ l. left ≡ Some (reverse l)) same orders
+
+-- the back stops for the drum only where a pass did
+pub err_drum : {T : Type 0} (stop : PassStop) (result : BackStop) → result ≡ stop_of stop → IsErrOf {T = T} {E = BackStop} (Err result) BackDrum → stop ≡ Drum
+err_drum Drum result is h = refl
+err_drum Memory result is h = cc
+err_drum Full result is h = cc
+err_drum (Spoilt odd) result is h = cc
+
+pub only_drum : (stop : PassStop) (result : BackStop) (P : Odd → Type 0) → result ≡ stop_of stop → OnlyDrum {T = ℕ} (Err stop) → BackSpoiltAs {T = ℕ} (Err result) P
+only_drum Drum result P is only = rw is tt
+only_drum Memory result P is only = absurd only
+only_drum Full result P is only = absurd only
+only_drum (Spoilt odd) result P is only = absurd only
+
+pub drum_or_as : (stop : PassStop) (result : BackStop) (P Q : Odd → Type 0) → result ≡ stop_of stop → ((odd : Odd) → P odd → Q odd) → DrumOr {T = ℕ} (Err stop) P → BackSpoiltAs {T = ℕ} (Err result) Q
+drum_or_as Drum result P Q is f h = rw is tt
+drum_or_as Memory result P Q is f h = absurd h
+drum_or_as Full result P Q is f h = absurd h
+drum_or_as (Spoilt odd) result P Q is f h = rw is (f odd h)
+
+pub on_ok : {T E : Type 0} (r : Result T E) (P : Type 0) → P → OnOk r P
+on_ok (Ok x) P p = p
+on_ok (Err e) P p = tt
+
+-- tracks that lie behind the changed ones, or before them
+pub same_behind : (first end from to : ℕ) (old new : Option (List (List ℕ))) → end ≤ from → KeepsTracks first end old new → SameTracks from to old new
+same_behind first end from to old new le h = record { told = h.told; own = λ t ge lt. h.others t (inr (omega arith)) }
+
+pub same_before : (first end from to : ℕ) (old new : Option (List (List ℕ))) → to ≤ first → KeepsTracks first end old new → SameTracks from to old new
+same_before first end from to old new le h = record { told = h.told; own = λ t ge lt. h.others t (inl (omega arith)) }
+
+pub same_both : (from to : ℕ) (old mid new : Option (List (List ℕ))) → SameTracks from to old mid → SameTracks from to mid new → SameTracks from to old new
+same_both from to old mid new h k = record { told = k.told ∙ h.told; own = λ t ge lt. k.own t ge lt ∙ h.own t ge lt }
+
+same_part : (from to end : ℕ) (old new : Option (List (List ℕ))) → end ≤ to → SameTracks from to old new → SameTracks from end old new
+same_part from to end old new le h = record { told = h.told; own = λ t ge lt. h.own t ge (omega arith) }
+
+-- a text on the tracks from one up to another
+pub text_same : (from to count : ℕ) (old new : Option (List (List ℕ))) → from + tracks_for count ≤ to → SameTracks from to old new → told (symbols_of new from 0 [] count) ≡ told (symbols_of old from 0 [] count)
+text_same from to count old new le h = ap (λ (v : View). v.held) (own_view old new from 0 [] count count false Backward 0 [] (omega arith) (same_part from to (from + tracks_for count) old new le h))
+
+pub some_same : {A : Type 0} (x y : A) → Some x ≡ Some y → x ≡ y
+some_same x y h = cc

@@ -1,0 +1,32 @@
+use Rattle.std.proofs.Common.{◌∙◌, arith, reverse}
+use Rattle.gier_areas.specs.Areas.{words_of}
+use Rattle.gier_pass9.specs.Written.{IsWrong}
+use Rattle.gier_back.proofs.Stages.{grows_more, tracks_wider, tracks_both, drum_or, left_back, same_behind, same_before, same_both}
+use Rattle.gier_back.proofs.compile.nine.Goals as goal
+
+pub returns-clause-changes : goal.returns-clause-changes
+returns-clause-changes g c =
+    let tracks = g.D.Drum.tracks in
+    let journal = g.D.Drum.journal in
+    let turned = c.rewind.ensures.logged in
+    let wrote = c.write.ensures.logged.2 in
+    record {
+      same_room = c.write.ensures.room ∙ c.rewind.ensures.room;
+      same_tracks = tracks_both 1468015 (tracks c.args.drum.now) (tracks c.rewind.new.store) (tracks c.write.new.drum)
+          (tracks_wider _ _ 1468015 (tracks c.args.drum.now) (tracks c.rewind.new.store) (omega (arith, c.requires.placed)) c.rewind.ensures.tracks)
+          (tracks_wider _ _ 1468015 (tracks c.rewind.new.store) (tracks c.write.new.drum) (omega (arith, c.object_track.ensures, c.object_words.ensures, c.requires.bytes)) c.write.ensures.tracks);
+      logged = grows_more (journal c.args.drum.now) (journal c.rewind.new.store) (journal c.write.new.drum) (turned.entries, turned.journal) (wrote.entries, wrote.journal);
+      later = omega (arith, c.rewind.ensures.later, c.write.ensures.later);
+    }
+
+pub returns-clause-sound : goal.returns-clause-sound
+returns-clause-sound g c = λ list held.
+    let spoilt = c.write.ensures.spoilt (reverse list) (left_back _ list _ held c.in-Ok.ensures.rewound.left) in
+    drum_or c.write.result (IsWrong (words_of c.args.bytes) (reverse list)) (λ h. let wrong = c.write.ensures.memory h in absurd (cc)) c.write.ensures.full (rw c.object_words.ensures at spoilt)
+
+pub returns-clause-area : goal.returns-clause-area
+returns-clause-area g c =
+    let tracks = g.D.Drum.tracks in
+    same_both 629149 1258298 (tracks c.args.drum.now) (tracks c.rewind.new.store) (tracks c.write.new.drum)
+    (same_behind _ _ 629149 1258298 (tracks c.args.drum.now) (tracks c.rewind.new.store) c.requires.placed c.rewind.ensures.tracks)
+    (same_before _ _ 629149 1258298 (tracks c.rewind.new.store) (tracks c.write.new.drum) (omega (arith, c.object_track.ensures)) c.write.ensures.tracks)

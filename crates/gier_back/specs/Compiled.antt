@@ -1,0 +1,43 @@
+-- What the back hands on.
+use Rattle.std.specs.Prelude.{◌≡◌, ◌≤◌, ◌∷◌, [], ℕ, List, Option, Some, slice_index, reverse}
+use Rattle.gier_order.specs.declared.object.Object.{Object}
+use Rattle.gier_symbol.specs.declared.symbol.Symbol.{Symbol}
+use Rattle.gier_word.specs.declared.refusal.Odd.{Odd}
+use Rattle.gier_areas.specs.Areas.{object_first, words_of, capacity_of}
+use Rattle.gier_text.specs.declared.fronted.Fronted.{Fronted}
+use Rattle.gier_text.specs.Coded.{symbols_of, told}
+use Rattle.gier_pass7.specs.Standing.{IsShort as IsShortSeven}
+use Rattle.gier_pass8.specs.Standing.{IsShort}
+use Rattle.gier_pass9.specs.Written.{IsWrong}
+
+-- the symbols on the tracks from this one on, where the tracks are told and hold the code of so many
+abbrev pub text_on : Option (List (List ℕ)) → ℕ → ℕ → Option (List Symbol)
+text_on tracks first count = told (symbols_of tracks first 0 [] count)
+
+-- the tracks from this one on hold the code of a text 7 that is no longer than a text may be
+pub record HoldsSeven (tracks : Option (List (List ℕ))) (first bytes count : ℕ) : Type 0 where
+  pub list : List Symbol
+  pub held : text_on tracks first count ≡ Some list
+  pub short : IsShortSeven 7 bytes list
+
+-- the lengths of texts 1 to 8, of which the last two are no longer than a text may be
+pub record AreLengths (fronted : Fronted) (lengths : List ℕ) : Type 0 where
+  pub seven : ℕ
+  pub eight : ℕ
+  pub all : lengths ≡ slice_index fronted.lengths 0 ∷ slice_index fronted.lengths 1 ∷ slice_index fronted.lengths 2 ∷ slice_index fronted.lengths 3 ∷ slice_index fronted.lengths 4 ∷ fronted.symbols ∷ seven ∷ eight ∷ []
+  pub few_seven : seven ≤ capacity_of fronted.bytes
+  pub few_eight : eight ≤ capacity_of fronted.bytes
+
+-- an object of the program: it lies behind the areas, begins at word 0, and has at least one word
+pub record IsObject (fronted : Fronted) (object : Object) : Type 0 where
+  pub place : object.first_track ≡ object_first
+  pub start : object.start ≡ 0
+  pub some : 1 ≤ object.words
+  pub few : object.words ≤ words_of fronted.bytes
+  pub lengths : AreLengths fronted object.lengths
+
+-- a text 8 of letters, which was no longer than a text may be, had no word or too many
+pub record IsNoObject (bytes : ℕ) (odd : Odd) : Type 0 where
+  pub list : List Symbol
+  pub short : IsShort 8 bytes list
+  pub wrong : IsWrong (words_of bytes) (reverse list) odd
