@@ -1,3 +1,3 @@
 pub mod Reading
-pub mod Prints
-pub mod Texts
+pub mod Rows
+pub mod Told

@@ -1,6 +1,7 @@
 -- Which lists of words are a command, and which is the first wrong word of all others.
-use Rattle.std.specs.Prelude.{◌≡◌, ◌≢◌, ◌≤◌, ◌-◌, ◌⊎◌, ℕ, Bool, true, false, List, [], ◌∷◌, Option, None, Some, take, length, codes, All, ⊤}
+use Rattle.std.specs.Prelude.{◌≡◌, ◌≢◌, ◌≤◌, ◌<◌, ◌^◌, ◌-◌, ◌⊎◌, ℕ, Bool, true, false, List, [], ◌∷◌, Option, None, Some, take, length, codes, All, ⊤}
 use Rattle.std.specs.List.{AllZip}
+use Rattle.gier_runner.specs.declared.settings.Settings.{Settings}
 use Rattle.gier_job.specs.Words.{Makes}
 use Rattle.gier_job.specs.declared.words.Key.{Key}
 use Rattle.gier_job.specs.declared.words.Key.TheVariants.{Places, Steps, Stack, Report, Table, Sample, Best, Mortem}
@@ -29,6 +30,12 @@ NoKeyTwice (s ∷ settings) = NotGiven s.key settings × NoKeyTwice settings
 abbrev pub IsFew : Option ℕ → Type 0
 IsFew None = ⊤
 IsFew (Some calls) = calls ≤ 2000
+
+-- what a runner may be opened with
+pub record IsWithin (settings : Settings) : Type 0 where
+  pub least : 1 ≤ settings.places
+  pub most : settings.places ≤ 64
+  pub stack : settings.stack < 2 ^ 24
 
 -- what holds where no word says otherwise
 abbrev pub plain_command : Bool → Command

@@ -1,7 +1,6 @@
 pub mod Words
 pub mod Command
-pub mod Sums
-pub mod Tape
+pub mod Tails
 pub mod Status
 pub mod Answer
 pub mod Checked

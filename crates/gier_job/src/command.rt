@@ -4,21 +4,11 @@ ghost use Rattle.std.specs.String.{string_bytes};
 ghost use Rattle.gier_job.specs.Words.{IsPermitted, Makes};
 ghost use Rattle.gier_job.specs.declared.command.Command.{Command};
 ghost use Rattle.gier_job.specs.declared.words.Setting.{Setting};
-ghost use Rattle.gier_job.specs.Command.{MayStand, NotGiven, plain_command, with_key, with_settings, IsFew, IsCommand, IsFirstWrong, mode_word};
+ghost use Rattle.gier_job.specs.Command.{MayStand, NotGiven, plain_command, with_key, with_settings, IsFew, IsWithin, IsCommand, IsFirstWrong, mode_word};
 
 use crate::words::{Key, Setting, read_setting};
 use arrayvec::ArrayVec;
-
-/// How a run is limited.
-#[derive(Debug, Clone, Copy, PartialEq, Eq)]
-pub struct Settings {
-    /// The track places, 1 to 64.
-    pub places: u8,
-    /// The permitted steps, at most 1,000,000,000,000.
-    pub steps: u64,
-    /// The permitted stack words, 64 to 1,000,000.
-    pub stack: u32,
-}
+use gier_runner::Settings;
 
 /// What the words of the command line ask for.
 #[derive(Debug, Clone, Copy, PartialEq, Eq)]
@@ -52,6 +42,7 @@ pub fn read_words(words: &[String]) -> Result<Command, u32>
     ensures command { IfOk result (λ command. IsCommand (map string_bytes words.now) command) }
     ensures only { IfOk result (λ command. (other : Command) → IsCommand (map string_bytes words.now) other → other ≡ command) }
     ensures few { IfOk result (λ command. IsFew command.sample) }
+    ensures within { IfOk result (λ command. IsWithin command.settings) }
     ensures wrong { IfErr result (λ number. IsFirstWrong (map string_bytes words.now) number) }
 {
     let Some((first, rest)) = words.split_first() else {
@@ -118,6 +109,7 @@ fn command_of(check: bool, settings: &[Setting]) -> Command
     requires { All (λ s. IsPermitted s.key s.value) settings.now }
     ensures made { result ≡ with_settings (plain_command check) settings.now }
     ensures few { IsFew result.sample }
+    ensures within { IsWithin result.settings }
 {
     let mut command = plain(check);
     for setting in settings {
@@ -148,6 +140,7 @@ fn set(command: &mut Command, setting: Setting)
     requires { IsPermitted setting.key setting.value }
     ensures made { command.new ≡ with_key command.old setting.key setting.value }
     ensures few { IsFew command.old.sample → IsFew command.new.sample }
+    ensures within { IsWithin command.old.settings → IsWithin command.new.settings }
 {
     match setting.key {
         Key::Places => command.settings.places = setting.value as u8,

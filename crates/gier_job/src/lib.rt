@@ -2,17 +2,20 @@
 #![tactic(auto)]
 
 mod answer;
-mod check;
 mod command;
+mod mortem;
 mod printing;
+mod running;
 mod status;
-mod sums;
-mod tape;
+mod tails;
 mod words;
+mod working;
 
 pub use answer::gier;
-pub use command::{Command, Settings, read_words};
+pub use command::{Command, read_words};
+pub use gier_runner::Settings;
 pub use status::{Status, status_text};
+pub use working::work;
 
 #[cfg(test)]
 mod tests;

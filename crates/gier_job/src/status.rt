@@ -1,8 +1,9 @@
 // How the top call ended.
 ghost use Rattle.std.specs.Prelude.{◌≡◌};
-ghost use Rattle.gier_job.specs.Status.{status_number, text_of_status};
+ghost use Rattle.gier_job.specs.Status.{status_number, text_of_status, of_printer, of_ending};
 
-use gier_word::Odd;
+use gier_runner::Ending;
+use gier_word::{Failed, Odd};
 
 /// How the top call ended. The number of a status is its place in this list, from 0.
 #[derive(Debug, Clone, Copy, PartialEq, Eq)]
@@ -64,5 +65,30 @@ pub fn status_text(status: Status) -> &'static str
         Status::Drum => "drum fault",
         Status::Memory => "want of memory",
         Status::Spoilt(_) => "spoilt drum",
+    }
+}
+
+/// The status where the printer failed.
+pub(crate) fn of_printer(put: Result<(), Failed>) -> Result<(), Status>
+    ensures { result ≡ of_printer put }
+{
+    match put {
+        Ok(()) => Ok(()),
+        Err(_) => Err(Status::Printer),
+    }
+}
+
+/// The status of a run that ended so.
+pub(crate) fn of_ending(ending: Ending) -> Status
+    ensures { result ≡ of_ending ending }
+{
+    match ending {
+        Ending::Ended => Status::Done,
+        Ending::Alarm(_) => Status::Alarm,
+        Ending::Steps => Status::Steps,
+        Ending::Read => Status::Tape,
+        Ending::Write => Status::Printer,
+        Ending::Drum => Status::Drum,
+        Ending::Spoilt(odd) => Status::Spoilt(odd),
     }
 }

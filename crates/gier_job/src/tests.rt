@@ -1,102 +1,53 @@
 // The top call over devices in memory, the defaults of the words, and what no clause says of the crates below:
-// the texts of the refusals, and operations with values worked out by hand.
-use crate::{Command, Settings, Status, gier, read_words};
-use gier_drum::{FailingDrum, ForgetfulDrum, MemDrum};
-use gier_io::{FailingSource, MemSink, MemSource};
-use gier_word::{Failed, Int40, NoMemory, Spoil, Word40};
-use std::alloc::{AllocError, Global};
-use std::test::Fail;
+// the texts of the refusals, and operations with values worked out by hand. Devices that fail stand in failing.rt, and what the
+// drum was asked for in journal.rt.
+mod failing;
+mod journal;
+mod setup;
 
-fn words(alloc: Global, texts: &[&str]) -> Result<Vec<String>, AllocError> {
-    let mut words = Vec::new(alloc);
-    for text in texts {
-        words.push(String::from_str(alloc, text)?)?;
-    }
-    Ok(words)
-}
+use crate::{Command, Settings, Status, read_words};
+use gier_drum::MemDrum;
+use gier_io::{MemSink, MemSource, Source};
+use gier_word::{Failed, Int40, NoMemory, Spoil, Word40};
+use setup::{answer, words};
+use std::test::Fail;
 
 #[test]
 fn a_full_printer_holds_what_fits(rt: HostRuntime) -> Result<(), Fail> {
-    let words = words(rt.alloc(), &["run"])?;
-    let text = Vec::from_slice(rt.alloc(), b"_begin outinteger(549755813887) _end")?;
-    let mut tape = MemSource::of(text);
+    let text = b"_begin outinteger(549755813887) _end";
+    let mut tape = MemSource::of(Vec::from_slice(rt.alloc(), text)?);
     let mut printer = MemSink::open(rt.alloc(), 2)?;
     let mut drum = MemDrum::open(rt.alloc(), 0)?;
-    let status = gier(
-        rt.alloc(),
-        words.as_slice(),
-        &mut tape,
-        &mut printer,
-        &mut drum,
-    );
+    let status = answer(rt.alloc(), &["run"], &mut tape, &mut printer, &mut drum)?;
     assert_eq!(rt; status, Status::Printer);
     assert!(rt; printer.bytes() == b"54".as_slice());
     Ok(())
 }
 
-#[test]
-fn a_failing_tape_prints_nothing(rt: HostRuntime) -> Result<(), Fail> {
-    let words = words(rt.alloc(), &["run"])?;
-    let text = Vec::from_slice(rt.alloc(), b"_begin outcr _end")?;
-    let mut tape = FailingSource::of(text, Vec::from_slice(rt.alloc(), &[0])?);
-    let mut printer = MemSink::open(rt.alloc(), 100)?;
-    let mut drum = MemDrum::open(rt.alloc(), 0)?;
-    let status = gier(
-        rt.alloc(),
-        words.as_slice(),
-        &mut tape,
-        &mut printer,
-        &mut drum,
-    );
-    assert_eq!(rt; status, Status::Tape);
-    assert!(rt; printer.bytes().is_empty());
-    Ok(())
-}
-
 // The sample is checked in place of the tape, of which nothing is taken.
 #[test]
-fn a_sample_is_checked(rt: HostRuntime) -> Result<(), Fail> {
-    let words = words(rt.alloc(), &["check", "sample=2000"])?;
-    let text = Vec::from_slice(rt.alloc(), b"rest")?;
-    let mut tape = FailingSource::of(text, Vec::from_slice(rt.alloc(), &[0])?);
+fn a_sample_leaves_the_tape_alone(rt: HostRuntime) -> Result<(), Fail> {
+    let mut tape = MemSource::of(Vec::from_slice(rt.alloc(), b"rest")?);
     let mut printer = MemSink::open(rt.alloc(), 0)?;
     let mut drum = MemDrum::open(rt.alloc(), 0)?;
-    let status = gier(
-        rt.alloc(),
-        words.as_slice(),
-        &mut tape,
-        &mut printer,
-        &mut drum,
-    );
+    let words = ["check", "sample=2000"];
+    let status = answer(rt.alloc(), &words, &mut tape, &mut printer, &mut drum)?;
     assert_eq!(rt; status, Status::Done);
+    assert_eq!(rt; tape.next(), Ok(Some(b'r')));
     Ok(())
 }
 
-// A drum without room refuses before anything is taken; one that forgets is found out.
+// The byte that is no part of a number is taken, and no other.
 #[test]
-fn failing_drums_have_their_statuses(rt: HostRuntime) -> Result<(), Fail> {
-    let words = words(rt.alloc(), &["check"])?;
-    let mut tape = MemSource::of(Vec::from_slice(rt.alloc(), b"_begin _end")?);
+fn wrong_data_are_taken_up_to_the_wrong_byte(rt: HostRuntime) -> Result<(), Fail> {
+    let text = b"_begin outinteger(ininteger) _end#xy";
+    let mut tape = MemSource::of(Vec::from_slice(rt.alloc(), text)?);
     let mut printer = MemSink::open(rt.alloc(), 100)?;
-    let mut failing = FailingDrum::open(rt.alloc(), 0, Vec::from_slice(rt.alloc(), &[0])?)?;
-    let status = gier(
-        rt.alloc(),
-        words.as_slice(),
-        &mut tape,
-        &mut printer,
-        &mut failing,
-    );
-    assert_eq!(rt; status, Status::Drum);
-    let mut forgetful = ForgetfulDrum::open(rt.alloc(), 0)?;
-    let status = gier(
-        rt.alloc(),
-        words.as_slice(),
-        &mut tape,
-        &mut printer,
-        &mut forgetful,
-    );
-    assert!(rt; matches!(status, Status::Spoilt(_)));
-    assert!(rt; printer.bytes().is_empty());
+    let mut drum = MemDrum::open(rt.alloc(), 0)?;
+    let status = answer(rt.alloc(), &["run"], &mut tape, &mut printer, &mut drum)?;
+    assert_eq!(rt; status, Status::Alarm);
+    assert!(rt; printer.bytes() == b"\n*** alarm data\n".as_slice());
+    assert_eq!(rt; tape.next(), Ok(Some(b'y')));
     Ok(())
 }
 
