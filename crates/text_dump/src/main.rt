@@ -5,10 +5,11 @@
 // symbol, in the order in which pass K reads it, tag, value and line. For each text it prints a line `tag value line` for each symbol
 // of text K as it is written, a line `fault position line kind` for each fault, and a line `end`. Without an argument it does so
 // with a text of its own. `text_dump K L` drives passes K to L, each over what the one before it wrote, and prints text L, or the faults
-// of the first pass that finds some. `text_dump 1` reads tapes instead: for each the number of bytes, and the bytes as numbers.
+// of the first pass that finds some; of pass 9 it prints the words of the object. `text_dump 1` reads tapes instead: for each the number of bytes, and the bytes as numbers.
 #![tactic(auto)]
 
 mod input;
+mod object;
 mod stage;
 
 use gier_io::{Source, StdSource};

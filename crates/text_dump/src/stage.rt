@@ -3,6 +3,7 @@ ghost use Rattle.std.specs.Prelude.{◌≡◌, ◌≤◌, [], IfOk, true, false}
 ghost use Rattle.gier_text.specs.Kept.{kept, fresh};
 
 use crate::input::{Symbols, text_of};
+use crate::object::show_object;
 use gier_io::MemSource;
 use gier_pass1::Pass1;
 use gier_pass2::Pass2;
@@ -10,6 +11,7 @@ use gier_pass3::Pass3;
 use gier_pass4::Pass4;
 use gier_pass5::Pass5;
 use gier_pass6::Pass6;
+use gier_pass7::Pass7;
 use gier_pass8::Pass8;
 use gier_symbol::Symbol;
 use gier_text::{ListText, Pass, PassStop, Tables, Text, Way, drive};
@@ -19,8 +21,13 @@ use std::io;
 // The longest program.
 const LIMIT: u32 = 1 << 19;
 
+// The last pass that writes a text, and the one that writes the object.
+const LAST_PASS: u8 = 8;
+
+const OBJECT_PASS: u8 = 9;
+
 /// Drives the passes from the first to the last one, each over what the one before it wrote, and prints what the last one writes, and
-/// the faults. Passes behind one that finds faults aren't driven.
+/// the faults. Passes behind one that finds faults aren't driven. Pass 9 prints the words of the object.
 pub fn show(rt: &HostRuntime, first: u8, last: u8, symbols: &Symbols) -> io::Result<()> {
     let Ok(mut tables) = Tables::open(rt.alloc(), LIMIT) else {
         return println!(rt; "want of memory");
@@ -29,7 +36,7 @@ pub fn show(rt: &HostRuntime, first: u8, last: u8, symbols: &Symbols) -> io::Res
         return println!(rt; "want of memory");
     };
     let bytes = symbols.bytes.min(LIMIT);
-    for number in first..last.saturating_add(1) {
+    for number in first..last.min(LAST_PASS).saturating_add(1) {
         if !is_clean(&tables) {
             break;
         }
@@ -43,6 +50,14 @@ pub fn show(rt: &HostRuntime, first: u8, last: u8, symbols: &Symbols) -> io::Res
             Ok(next) => text = next,
             Err(stop) => return println!(rt; "stop {stop:?}"),
         }
+    }
+    if last == OBJECT_PASS && is_clean(&tables) {
+        let way = if first == OBJECT_PASS {
+            Way::Backward
+        } else {
+            Way::Forward
+        };
+        return show_object(rt, &mut text, way, &mut tables);
     }
     show_text(rt, &mut text)?;
     show_faults(rt, &tables)
@@ -96,6 +111,7 @@ fn drive_pass(
         4 => run(alloc, &mut Pass4::open(tables, bytes), input, way, tables),
         5 => run(alloc, &mut Pass5::open(tables, bytes), input, way, tables),
         6 => run(alloc, &mut Pass6::open(tables, bytes), input, way, tables),
+        7 => run(alloc, &mut Pass7::open(tables, bytes), input, way, tables),
         8 => run(alloc, &mut Pass8::open(tables, bytes), input, way, tables),
         _ => Ok(ListText::open(alloc)),
     }
