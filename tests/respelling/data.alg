@@ -1,0 +1,1 @@
+_begin outinteger(ininteger) _end # 12 begin 3.5
