@@ -1,3 +1,4 @@
 pub mod Recency
 pub mod Standing
 pub mod Table
+pub mod Flat

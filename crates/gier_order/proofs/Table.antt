@@ -1,5 +1,5 @@
 -- Numbers and operations belong to each other one to one, and no word past the last number is the code of an order.
-use Rattle.std.proofs.Common.{◌≡◌, ◌-◌, ◌/◌, ◌^◌, ◌<◌, ◌≤◌, ℕ, zero, suc, true, false, nat_lt, IsTrue, List, [], ◌∷◌, length, map, get_or, None, Some, refl, sym, ap, ◌∙◌, arith}
+use Rattle.std.proofs.Common.{◌≡◌, ◌==◌, ◌&&◌, ◌||◌, ◌-◌, ◌/◌, ◌^◌, ◌<◌, ◌≤◌, ℕ, zero, suc, Bool, true, false, nat_lt, IsTrue, List, [], ◌∷◌, length, map, get_or, None, Some, refl, sym, ap, ◌∙◌, arith}
 use Rattle.std.specs.List.{slice_get}
 use Rattle.std.specs.Option.{option_map}
 use Rattle.std.proofs.lemmas.Option.{slice_get_past, slice_get-map}
@@ -10,7 +10,19 @@ use Rattle.gier_order.specs.declared.operation.Operation.TheVariants.{Start, Sto
 use Rattle.gier_order.specs.declared.operation.Row.{Row}
 use Rattle.gier_order.specs.declared.order.Order.{Order}
 use Rattle.gier_order.specs.Table.{row_of, operations, operation_at}
-use Rattle.gier_order.specs.Codes.{IsOrder, code_of, is_row, order_at}
+use Rattle.gier_order.specs.declared.operation.Fields.{Fields}
+use Rattle.gier_order.specs.declared.operation.Fields.TheVariants.{Both, Level, Address, Neither}
+use Rattle.gier_order.specs.Codes.{IsOrder, code_of, is_row, order_at, unused_are_zero, level_used, address_used}
+
+and_true : (b : Bool) → (b && true) ≡ b
+and_true true = refl
+and_true false = refl
+
+pub unused_by_use : (fields : Fields) (level address : ℕ) → ((level_used fields || (level == 0)) && (address_used fields || (address == 0))) ≡ unused_are_zero fields level address
+unused_by_use Both level address = refl
+unused_by_use Level level address = refl
+unused_by_use Address level address = and_true (level == 0)
+unused_by_use Neither level address = refl
 
 pub operation_at-number : (operation : Operation) → operation_at (row_of operation).number ≡ Some operation
 unfolding operation_at operations

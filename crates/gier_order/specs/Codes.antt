@@ -6,6 +6,19 @@ use Rattle.gier_order.specs.declared.operation.Fields.TheVariants.{Both, Level, 
 use Rattle.gier_order.specs.declared.order.Order.{Order}
 use Rattle.gier_order.specs.Table.{row_of, operation_at}
 
+-- which fields an order uses
+abbrev pub level_used : Fields → Bool
+level_used Both = true
+level_used Level = true
+level_used Address = false
+level_used Neither = false
+
+abbrev pub address_used : Fields → Bool
+address_used Both = true
+address_used Level = false
+address_used Address = true
+address_used Neither = false
+
 -- the fields that an order doesn't use are 0
 abbrev pub unused_are_zero : Fields → ℕ → ℕ → Bool
 unused_are_zero Both level address = true

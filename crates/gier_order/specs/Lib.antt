@@ -2,3 +2,4 @@ pub mod Misses
 pub mod Counts
 pub mod Table
 pub mod Codes
+pub mod Flat

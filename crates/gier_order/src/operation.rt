@@ -1,6 +1,7 @@
 // The order table: the number, the name and the fields of each order, and what it does. No order is executed here.
 ghost use Rattle.std.specs.Prelude.{◌≡◌, map, slice_get};
 ghost use Rattle.gier_order.specs.Table.{row_of, operation_at};
+ghost use Rattle.gier_order.specs.Codes.{level_used, address_used};
 
 /// The orders of the machine, in the order of their numbers, from 1.
 ///
@@ -132,6 +133,22 @@ pub enum Fields {
     Address,
     /// None of the two.
     Neither,
+}
+
+impl Fields {
+    #[inline]
+    pub(crate) fn has_level(self) -> bool
+        ensures { result ≡ level_used self }
+    {
+        matches!(self, Fields::Both | Fields::Level)
+    }
+
+    #[inline]
+    pub(crate) fn has_address(self) -> bool
+        ensures { result ≡ address_used self }
+    {
+        matches!(self, Fields::Both | Fields::Address)
+    }
 }
 
 struct Row(Operation, &'static str, Fields);

@@ -88,15 +88,12 @@ fn has_row(op: u8, level: u8, address: u32) -> bool
     }
 }
 
+// Without a branch for each kind of order, since every order of a run is decoded.
+#[tactic(auto, using(crate::proofs::Table::unused_by_use))]
 fn leaves_unused(fields: Fields, level: u8, address: u32) -> bool
     ensures { result ≡ unused_are_zero fields level address }
 {
-    match fields {
-        Fields::Both => true,
-        Fields::Level => address == 0,
-        Fields::Address => level == 0,
-        Fields::Neither => level == 0 && address == 0,
-    }
+    (fields.has_level() || level == 0) && (fields.has_address() || address == 0)
 }
 
 #[cfg(test)]

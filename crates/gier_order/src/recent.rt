@@ -46,6 +46,7 @@ impl Recent {
     }
 
     /// Takes one reference to a track. Fewer than 2^120 were taken before.
+    #[inline]
     pub fn refer(&mut self, track: u32)
         requires { taken self.old < 2 ^ 120 }
         ensures one_more { taken self.new ≡ taken self.old + 1 }
@@ -92,13 +93,25 @@ fn total(counts: &[u128]) -> u128
     counts.iter().sum()
 }
 
+#[inline]
 fn place_of(tracks: &[u32], track: u32) -> Option<usize>
+    ensures { result ≡ position (λ t. t == track) tracks.now }
+{
+    match tracks {
+        [newest, ..] if *newest == track => Some(0),
+        _ => search(tracks, track),
+    }
+}
+
+#[inline(never)]
+fn search(tracks: &[u32], track: u32) -> Option<usize>
     ensures { result ≡ position (λ t. t == track) tracks.now }
 {
     tracks.iter().position(|t| *t == track)
 }
 
 // The last one goes where the list is full.
+#[inline(never)]
 fn put_first(tracks: &mut ArrayVec<u32, 64>, track: u32)
     ensures { tracks.new.items ≡ take 64 (track ∷ tracks.old.items) }
 {

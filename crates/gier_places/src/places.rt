@@ -73,6 +73,7 @@ impl Places {
     ///
     /// It is read into an empty place, or else in place of the track that was referred to least recently. After a
     /// failure the places are as before. Fewer than 2^120 transfers were made.
+    #[inline]
     pub fn refer<D: Drum>(&mut self, track: u32, drum: &mut D) -> Result<&[u64; 40], Failed>
         requires in_room { track < D.room drum.old }
         requires few { self.old.transfers < 2 ^ 120 }
@@ -112,6 +113,7 @@ impl Places {
     }
 
     // Makes the track the one referred to last.
+    #[inline]
     fn fetch<D: Drum>(&mut self, track: u32, drum: &mut D) -> Result<(), Failed>
         requires in_room { track < D.room drum.old }
         requires few { self.old.transfers < 2 ^ 120 }
@@ -138,12 +140,16 @@ impl Places {
         Ok(())
     }
 
+    #[inline]
     fn place_of(&self, track: u32) -> Option<usize>
         ensures found { result ≡ position (λ h. h.track == track) self.now.held }
         ensures fits { length self.now.held ≤ self.now.places }
         ensures least { 1 ≤ self.now.places }
     {
-        self.held.iter().position(|held| held.track == track)
+        match self.held.as_slice() {
+            [newest, ..] if newest.track == track => Some(0),
+            _ => search(self.held.as_slice(), track),
+        }
     }
 
     // Most references are to the track in front, and leave the list as it is.
@@ -157,6 +163,7 @@ impl Places {
     }
 
     // Takes in a track that was read, and gives up the last one where all places are taken.
+    #[inline(never)]
     fn take_in(&mut self, track: u32, words: &[u64; 40])
         requires words { All (λ word. word < 2 ^ 40) words.now }
         requires few { self.old.transfers < 2 ^ 120 }
@@ -184,6 +191,13 @@ impl Places {
     {
         &self.held[0].words
     }
+}
+
+#[inline(never)]
+fn search(held: &[Held], track: u32) -> Option<usize>
+    ensures { result ≡ position (λ h. h.track == track) held.now }
+{
+    held.iter().position(|held| held.track == track)
 }
 
 // Moves no more than what stands before the place, since a track that comes back was mostly used a short time ago.
