@@ -2,3 +2,11 @@ pub mod Tags
 pub mod Texts
 pub mod Symbols
 pub mod Words
+pub mod ByTag
+pub mod Listing
+pub mod Bytes
+pub mod Spans
+pub mod Reading
+pub mod Tape
+pub mod Assembled
+pub mod ReadExamples

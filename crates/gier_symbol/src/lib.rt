@@ -2,12 +2,14 @@
 #![tactic(auto)]
 
 mod alphabet;
+mod laws;
 mod symbol;
 mod tag;
 mod text;
 mod word;
 
 pub use alphabet::{Alphabet, Coded};
+pub use laws::{law_assembled, law_read};
 pub use symbol::Symbol;
 pub use tag::Tag;
 pub use text::{LAST_ORDER, ORDER_BASE, is_tag, stands_in};
