@@ -3,9 +3,13 @@
 
 mod construct;
 mod kind;
+mod laws;
 
 pub use construct::Construct;
 pub use kind::Kind;
+pub use laws::{
+    law_code, law_hoisted, law_rooms, law_spelling, law_structured, law_texts, law_unique,
+};
 
 #[cfg(test)]
 mod tests {

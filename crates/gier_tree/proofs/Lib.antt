@@ -1,0 +1,9 @@
+pub mod Ends
+pub mod Levels
+pub mod Entering
+pub mod Built
+pub mod Tails
+pub mod Right
+pub mod Follows
+pub mod Parts
+pub mod Whole
