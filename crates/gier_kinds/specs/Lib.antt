@@ -1,0 +1,15 @@
+pub mod Faults
+pub mod Types
+pub mod AllowedUses
+pub mod ExprTypes
+pub mod Actuals
+pub mod ExprFaults
+pub mod Around
+pub mod Headings
+pub mod TypeFaults
+pub mod Errors
+pub mod ErrorTexts
+pub mod UseExamples
+pub mod TypeExamples
+pub mod LongExamples
+pub mod ErrorExamples
