@@ -1,0 +1,11 @@
+mod Images
+mod Closing
+mod Envs
+mod Rooms
+mod States
+mod Agree
+mod Parts
+mod Turning
+mod Running
+mod Entering
+mod Whole

@@ -1,0 +1,5 @@
+use Rattle.gier_copy.proofs.Whole.{same_meaning}
+use Rattle.gier_copy.proofs.law.law_copy.Goals as goal
+
+pub returns : goal.returns
+returns c = same_meaning

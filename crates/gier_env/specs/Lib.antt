@@ -1,0 +1,12 @@
+pub mod Env
+pub mod Closures
+pub mod Doing
+pub mod Tasks
+pub mod Names
+pub mod Calls
+pub mod Expressions
+pub mod Loops
+pub mod Statements
+pub mod Blocks
+pub mod Standing
+pub mod Meaning
