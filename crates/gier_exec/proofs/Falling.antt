@@ -2,7 +2,7 @@
 use Rattle.std.specs.Prelude.{◌≡◌, ◌+◌, ◌-◌, ◌*◌, ◌<◌, ◌≤◌, ℕ, suc}
 use Rattle.std.proofs.Common.{arith}
 use Rattle.std.proofs.Math.Nat.{mul-le-mul_right}
-use Rattle.gier_exec.specs.Registers.{Registers, measure, weight, Goes}
+use Rattle.gier_exec.specs.Registers.{Registers, weight, Goes}
 
 -- less or the same weight, and an address ahead
 ahead : (a b words place next : ℕ) → a ≤ b → place < next → next < words → a * (words + 1) + (words - next) < b * (words + 1) + (words - place)

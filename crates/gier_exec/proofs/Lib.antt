@@ -1,3 +1,16 @@
 pub mod Falling
 pub mod Readings
 pub mod Sizes
+pub mod Regions
+pub mod Founds
+pub mod Comings
+pub mod Stores
+pub mod Entries
+pub mod Refusings
+pub mod ArrayRows
+pub mod Leaps
+pub mod Referrings
+pub mod Starting
+pub mod Odds
+pub mod Longs
+pub mod Wholes

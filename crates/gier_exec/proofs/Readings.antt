@@ -1,16 +1,15 @@
 -- What one read of a word of the object does, and several one after another.
-use Rattle.std.specs.Prelude.{◌≡◌, ◌+◌, ◌*◌, ◌/◌, ◌<◌, ◌≤◌, ◌^◌, ℕ, Bool, true, false, IsTrue, if◌then◌else◌, List, [], ◌∷◌, ◌++◌, All, length, map, Option, None, Some, Result, Ok, Err}
+use Rattle.std.specs.Prelude.{◌≡◌, ◌+◌, ◌≤◌, ℕ, Bool, true, false, IsTrue, if◌then◌else◌, List, [], ◌∷◌, ◌++◌, map, Option, None, Some, Result, Ok, Err}
 use Rattle.std.proofs.Common.{arith, rules, refl, ap, sym, inl, inr, ◌∙◌}
 use Rattle.std.proofs.lemmas.List.{append-nil, append_assoc, map-append}
 use Rattle.gier_drum.specs.declared.drum.Entry.{Entry}
 use Rattle.gier_drum.specs.declared.drum.Entry.TheVariants.{Read}
 use Rattle.gier_drum.specs.Drum.{Logs}
 use Rattle.gier_word.specs.Cause.{HasRisen}
-use Rattle.gier_order.specs.Counts.{taken}
 use Rattle.gier_order.specs.declared.object.Object.{Object}
 use Rattle.gier_places.specs.Contents.{Contents, LogsReads, AfterRefer, Refers}
-use Rattle.gier_best.specs.Traced.{Traced, AreTracks, KeepsSettings}
-use Rattle.gier_exec.specs.Reading.{Stand, CanRead, Reads, ReadsMore, tracks_for}
+use Rattle.gier_best.specs.Traced.{Traced, KeepsSettings}
+use Rattle.gier_exec.specs.Reading.{Stand, CanRead, Reads, ReadsMore}
 
 -- a read that fails or finds its track in a place leaves the journal
 pub reads_none : (old : Option (List Entry)) → ReadsMore old old

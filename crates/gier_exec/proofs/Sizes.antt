@@ -1,6 +1,6 @@
 -- No call of the frames changes how many words there are.
-use Rattle.std.specs.Prelude.{◌≡◌, ◌+◌, ◌*◌, ◌/◌, ◌%◌, ◌≤◌, ◌<◌, ℕ, zero, suc, List, length, slice_index, slice_set, Option, None, Some, Bool, true, false, if◌then◌else◌}
-use Rattle.std.proofs.Common.{arith, rules, refl, ap, sym, ◌∙◌}
+use Rattle.std.specs.Prelude.{◌≡◌, ◌+◌, ◌*◌, ◌/◌, ◌%◌, ℕ, zero, suc, List, length, slice_index, slice_set, Option, None, Some, Bool, true, false, if◌then◌else◌}
+use Rattle.std.proofs.Common.{refl, ◌∙◌}
 use Rattle.std.proofs.lemmas.List.{length-set}
 use Rattle.gier_frames.specs.declared.halt.Halt.{Halt}
 use Rattle.gier_frames.specs.declared.halt.Halt.TheVariants.{Alarm, Odd}
@@ -9,7 +9,6 @@ use Rattle.gier_frames.specs.State.{State}
 use Rattle.gier_frames.specs.Numbers.{elements}
 use Rattle.gier_frames.specs.Writes.{zeroed, words_from, poured, with_two, with_header}
 use Rattle.gier_frames.specs.Effects.{entered_one, started, entered_block, array_words, with_array, call_words, called}
-use Rattle.gier_frames.specs.Walk.{sought, visible, cell_of}
 use Rattle.gier_order.specs.declared.order.Order.{Order}
 use Rattle.gier_names.specs.declared.wanted.Wanted.{Wanted}
 use Rattle.gier_names.specs.Evaluations.{begun, entered_unless, entry_refusal, number_of, or_assignment, begin_refusal, is_unassignable}

@@ -1,5 +1,5 @@
 -- What an order that reads words of the object does to the drum, to the places, and to the two counts of references.
-use Rattle.std.specs.Prelude.{◌≡◌, ◌+◌, ◌*◌, ◌/◌, ◌<◌, ◌≤◌, ◌^◌, ℕ, List, Option}
+use Rattle.std.specs.Prelude.{◌≡◌, ◌+◌, ◌/◌, ◌≤◌, ◌^◌, ℕ, List, Option}
 use Rattle.gier_drum.specs.declared.drum.Entry.{Entry}
 use Rattle.gier_order.specs.Counts.{Counts, taken}
 use Rattle.gier_order.specs.declared.object.Object.{Object}

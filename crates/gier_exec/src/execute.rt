@@ -1,5 +1,14 @@
 // Which part of the machine carries out an order.
-ghost use Rattle.std.specs.Prelude.{◌≡◌, ◌≢◌, ◌+◌, ◌*◌, ◌<◌, ◌≤◌, ◌^◌, IfOk, length, Err};
+ghost use Rattle.std.specs.Prelude.{◌≡◌, ◌≢◌, ◌+◌, ◌*◌, ◌<◌, ◌≤◌, ◌^◌, ◌||◌, ℕ, true, List, [], Some, IfOk, IsTrue, length, Err};
+ghost use Rattle.gier_frames.specs.State.{State, IsKept};
+ghost use Rattle.gier_places.specs.Contents.{Agrees};
+ghost use Rattle.gier_order.specs.Table.{operation_at};
+ghost use Rattle.gier_order.specs.declared.operation.Operation.TheVariants.{Long};
+ghost use Rattle.gier_order.specs.Flat.Rows.{effect, does};
+ghost use Rattle.gier_exec.specs.Rows.{regs_of, code_in};
+ghost use Rattle.gier_exec.specs.Following.{Comes};
+ghost use Rattle.gier_exec.specs.References.{Refers, Does, DoesOrQuits, IsSettled};
+ghost use Rattle.gier_exec.specs.Numbers.{is_jump, is_plain, is_start, is_settled};
 ghost use Rattle.gier_word.specs.Cause.{HasRisen};
 ghost use Rattle.gier_library.specs.Seen.{source_of};
 ghost use Rattle.gier_order.specs.Codes.{IsOrder};
@@ -43,6 +52,8 @@ pub(crate) fn execute<D: Drum, S: Source, K: Sink>(
     requires order { IsOrder order }
     requires place { m.old.place < object.now.words }
     requires can { CanRead (2 * object.now.words + 1) object.now (seen D.room D.tracks D.journal D.faults drum.old places.old recent.old trace.old) }
+    ensures row { (tracks : List (List ℕ)) (input : List ℕ) → D.tracks drum.old ≡ Some tracks → Agrees (Some tracks) places.old.held → IsSettled (operation_at order.op)
+        → (refs : List ℕ) × Refers object.now refs (seen D.room D.tracks D.journal D.faults drum.old places.old recent.old trace.old) (seen D.room D.tracks D.journal D.faults drum.new places.new recent.new trace.new) × DoesOrQuits (does (code_in tracks object.now) (length frames.old.words) (regs_of m.old frames.old input) order (operation_at order.op)) refs (regs_of m.new frames.new input) result }
     ensures keeps { Keeps m.old m.new }
     ensures goes { IfOk result (λ next. Goes object.now.words m.old next m.new) }
     ensures size { length frames.new.words ≡ length frames.old.words }
@@ -70,15 +81,23 @@ pub(crate) fn execute<D: Drum, S: Source, K: Sink>(
             order.address,
         );
     }
-    if frames.here(0).is_err() && operation != Operation::Start {
-        return Err(Quit::Miss(ODD));
+    if is_allowed(frames, operation) {
+        return match dispatch(
+            m, frames, object, drum, places, recent, trace, operation, order,
+        ) {
+            Ok(next) => Ok(next),
+            Err(miss) => Err(Quit::Miss(miss)),
+        };
     }
-    match dispatch(
-        m, frames, object, drum, places, recent, trace, operation, order,
-    ) {
-        Ok(next) => Ok(next),
-        Err(miss) => Err(Quit::Miss(miss)),
-    }
+    Err(Quit::Miss(ODD))
+}
+
+// Whether there is an activation, or the order begins the first one.
+fn is_allowed(frames: &Frames, operation: Operation) -> bool
+    ensures value { result ≡ (frames.now.entered || is_start operation) }
+    ensures kept { IsKept frames.now }
+{
+    frames.here(0).is_ok() || operation == Operation::Start
 }
 
 // LIB.
@@ -132,6 +151,9 @@ fn dispatch<D: Drum>(
     requires order { IsOrder order }
     requires place { m.old.place < object.now.words }
     requires can { CanRead (2 * object.now.words + 1) object.now (seen D.room D.tracks D.journal D.faults drum.old places.old recent.old trace.old) }
+    requires kept { IsKept frames.old }
+    ensures row { (tracks : List (List ℕ)) (input : List ℕ) → D.tracks drum.old ≡ Some tracks → Agrees (Some tracks) places.old.held → IsTrue (frames.old.entered || is_start operation) → is_settled operation ≡ true
+        → (refs : List ℕ) × Refers object.now refs (seen D.room D.tracks D.journal D.faults drum.old places.old recent.old trace.old) (seen D.room D.tracks D.journal D.faults drum.new places.new recent.new trace.new) × Does (effect (code_in tracks object.now) (length frames.old.words) (regs_of m.old frames.old input) operation order.level order.address) refs (regs_of m.new frames.new input) result }
     ensures keeps { Keeps m.old m.new }
     ensures goes { IfOk result (λ next. Goes object.now.words m.old next m.new) }
     ensures size { length frames.new.words ≡ length frames.old.words }
@@ -179,6 +201,7 @@ fn move_on(
     order: Order,
     words: u32,
 ) -> Result<u32, Miss>
+    ensures row { (code input : List ℕ) → frames.old.entered ≡ true → length code ≡ words → is_jump operation ≡ true → Does (effect code (length frames.old.words) (regs_of m.old frames.old input) operation order.level order.address) [] (regs_of m.new frames.new input) result }
     ensures keeps { Keeps m.old m.new }
     ensures goes { IfOk result (λ next. Goes words m.old next m.new) }
     ensures size { length frames.new.words ≡ length frames.old.words }
@@ -198,6 +221,7 @@ fn choose_next(
     order: Order,
     words: u32,
 ) -> Result<u32, Stop>
+    ensures row { (code input : List ℕ) → frames.old.entered ≡ true → length code ≡ words → is_jump operation ≡ true → Comes (effect code (length frames.old.words) (regs_of m.old frames.old input) operation order.level order.address) (regs_of m.new frames.new input) result }
     ensures keeps { Keeps m.old m.new }
     ensures goes { IfOk result (λ next. Goes words m.old next m.new) }
     ensures size { length frames.new.words ≡ length frames.old.words }
@@ -223,7 +247,9 @@ fn go_on(
     order: Order,
     words: u32,
 ) -> Result<u32, Miss>
-    requires { IsOrder order }
+    requires order { IsOrder order }
+    requires kept { IsKept frames.old }
+    ensures row { (code input : List ℕ) → IsTrue (frames.old.entered || is_start operation) → length code ≡ words → is_plain operation ≡ true → Does (effect code (length frames.old.words) (regs_of m.old frames.old input) operation order.level order.address) [] (regs_of m.new frames.new input) result }
     ensures keeps { Keeps m.old m.new }
     ensures goes { IfOk result (λ next. Goes words m.old next m.new) }
     ensures size { length frames.new.words ≡ length frames.old.words }
@@ -251,6 +277,8 @@ fn long<D: Drum>(
 ) -> Result<u32, Miss>
     requires place { m.old.place < object.now.words }
     requires can { CanRead 1 object.now (seen D.room D.tracks D.journal D.faults drum.old places.old recent.old trace.old) }
+    ensures row { (tracks : List (List ℕ)) (input : List ℕ) (s : State) (l a : ℕ) → D.tracks drum.old ≡ Some tracks → Agrees (Some tracks) places.old.held
+        → (refs : List ℕ) × Refers object.now refs (seen D.room D.tracks D.journal D.faults drum.old places.old recent.old trace.old) (seen D.room D.tracks D.journal D.faults drum.new places.new recent.new trace.new) × Does (effect (code_in tracks object.now) (length s.words) (regs_of m.old s input) Long l a) refs (regs_of m.new s input) result }
     ensures keeps { Keeps m.old m.new }
     ensures goes { IfOk result (λ next. Goes object.now.words m.old next m.new) }
     ensures reads { Reads 1 object.now (seen D.room D.tracks D.journal D.faults drum.old places.old recent.old trace.old) (seen D.room D.tracks D.journal D.faults drum.new places.new recent.new trace.new) }

@@ -1,5 +1,6 @@
 // The registers of the machine. What the orders do to them is said elsewhere.
-ghost use Rattle.std.specs.Prelude.{◌≡◌, ◌+◌, ◌-◌, ◌<◌, ◌≤◌, ◌^◌, IfOk};
+ghost use Rattle.std.specs.Prelude.{◌≡◌, ◌+◌, ◌-◌, ◌<◌, ◌≤◌, ◌^◌, nat_lt, if◌then◌else◌, Ok, Err, IfOk};
+ghost use Rattle.gier_exec.specs.declared.stop.Stop.TheVariants.{Odd};
 ghost use Rattle.gier_exec.specs.Registers.{begun_at, Goes};
 
 use crate::stop::Stop;
@@ -144,7 +145,8 @@ impl Machine {
     #[tactic(auto, using(crate::proofs::Falling::ahead_falls))]
     pub(crate) fn ahead(&self, next: u64, words: u32) -> Result<u32, Stop>
         requires { self.now.place < next }
-        ensures { IfOk result (λ address. (address ≡ next) × Goes words self.now address self.now) }
+        ensures goes { IfOk result (λ address. (address ≡ next) × Goes words self.now address self.now) }
+        ensures value { result ≡ (if nat_lt next words then Ok next else Err Odd) }
     {
         if next < u64::from(words) {
             Ok(next as u32)
@@ -157,6 +159,7 @@ impl Machine {
 /// An address to go to; odd where it isn't one of the object's.
 pub(crate) fn address_of(word: u64, words: u32) -> Result<u32, Stop>
     ensures value { IfOk result (λ address. address ≡ word) }
+    ensures found { result ≡ (if nat_lt word words then Ok word else Err Odd) }
     ensures within { IfOk result (λ address. address < words) }
 {
     if word < u64::from(words) {

@@ -1,6 +1,8 @@
 // Words as numbers, and the orders that make a word of one or two others. No frames are touched here.
-ghost use Rattle.std.specs.Prelude.{◌≡◌, ◌<◌, ◌^◌, IfOk};
-ghost use Rattle.gier_word.specs.Words.{int_of_word};
+ghost use Rattle.std.specs.Prelude.{◌≡◌, ◌<◌, ◌^◌, true, IfOk};
+ghost use Rattle.gier_word.specs.Words.{int_of_word, word_of_int};
+ghost use Rattle.gier_word.specs.Operations.{negative_of, product_of, sign_of};
+ghost use Rattle.gier_exec.specs.Numbers.{worded, signed, arithmetic, is_test, test, is_combined, combination};
 
 use gier_order::Operation;
 use gier_word::{Alarm, Int40, Spoil, Word40};
@@ -18,14 +20,16 @@ pub(crate) fn number_of(word: u64) -> Int40
 
 /// The word of a number.
 pub(crate) fn word_of(number: Int40) -> u64
-    ensures { result < 2 ^ 40 }
+    ensures small { result < 2 ^ 40 }
+    ensures value { result ≡ word_of_int number }
 {
     number.word().bits()
 }
 
 // The word of a result, or the alarm in its place.
 fn answer(given: Result<Int40, Spoil>) -> Result<u64, Alarm>
-    ensures { IfOk result (λ word. word < 2 ^ 40) }
+    ensures value { result ≡ worded given }
+    ensures small { IfOk result (λ word. word < 2 ^ 40) }
 {
     match given {
         Ok(number) => Ok(word_of(number)),
@@ -36,7 +40,8 @@ fn answer(given: Result<Int40, Spoil>) -> Result<u64, Alarm>
 /// NEG.
 pub(crate) fn negative(r: u64) -> Result<u64, Alarm>
     requires { r < 2 ^ 40 }
-    ensures { IfOk result (λ word. word < 2 ^ 40) }
+    ensures value { result ≡ worded (negative_of (int_of_word r)) }
+    ensures small { IfOk result (λ word. word < 2 ^ 40) }
 {
     answer(number_of(r).neg())
 }
@@ -45,7 +50,8 @@ pub(crate) fn negative(r: u64) -> Result<u64, Alarm>
 pub(crate) fn tested(w: u64, r: u64) -> Result<u64, Alarm>
     requires w { w < 2 ^ 40 }
     requires r { r < 2 ^ 40 }
-    ensures { IfOk result (λ word. word < 2 ^ 40) }
+    ensures value { result ≡ signed (product_of (int_of_word w) (sign_of (int_of_word r))) }
+    ensures small { IfOk result (λ word. word < 2 ^ 40) }
 {
     match number_of(w).mul(number_of(r).sign()) {
         Ok(product) => Ok(u64::from(product.get() <= 0)),
@@ -57,7 +63,8 @@ pub(crate) fn tested(w: u64, r: u64) -> Result<u64, Alarm>
 pub(crate) fn computed(operation: Operation, w: u64, r: u64) -> Result<u64, Alarm>
     requires w { w < 2 ^ 40 }
     requires r { r < 2 ^ 40 }
-    ensures { IfOk result (λ word. word < 2 ^ 40) }
+    ensures value { result ≡ arithmetic operation w r }
+    ensures small { IfOk result (λ word. word < 2 ^ 40) }
 {
     let a = number_of(w);
     let b = number_of(r);
@@ -71,10 +78,26 @@ pub(crate) fn computed(operation: Operation, w: u64, r: u64) -> Result<u64, Alar
     }
 }
 
+/// What an order on w and R makes of them; any other order is none of these.
+pub(crate) fn combination(operation: Operation, w: u64, r: u64) -> Result<u64, Alarm>
+    requires w { w < 2 ^ 40 }
+    requires r { r < 2 ^ 40 }
+    ensures value { is_combined operation ≡ true → result ≡ combination operation w r }
+    ensures small { IfOk result (λ word. word < 2 ^ 40) }
+{
+    match operation {
+        Operation::Add | Operation::Sub | Operation::Mul | Operation::Div | Operation::Pow =>
+            computed(operation, w, r),
+        Operation::Test => tested(w, r),
+        _ => Ok(u64::from(holds(operation, w, r))),
+    }
+}
+
 /// LT to NE and AND to EQUIV: 1 or 0.
 pub(crate) fn holds(operation: Operation, w: u64, r: u64) -> bool
     requires w { w < 2 ^ 40 }
     requires r { r < 2 ^ 40 }
+    ensures { is_test operation ≡ true → result ≡ test operation w r }
 {
     let a = number_of(w).get();
     let b = number_of(r).get();

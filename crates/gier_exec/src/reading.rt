@@ -1,5 +1,9 @@
 // Words of the object, which are read through the places alone; each is noted in both counts of references.
-ghost use Rattle.std.specs.Prelude.{◌≡◌, ◌<◌, ◌≤◌, ◌^◌, IfOk, OnOk, Err};
+ghost use Rattle.std.specs.Prelude.{◌≡◌, ◌<◌, ◌≤◌, ◌^◌, ℕ, List, Some, IfOk, OnOk, Err};
+ghost use Rattle.gier_order.specs.Flat.Row.{Row, reads};
+ghost use Rattle.gier_places.specs.Contents.{Agrees};
+ghost use Rattle.gier_exec.specs.Rows.{word_in, code_in};
+ghost use Rattle.gier_exec.specs.References.{Refers, Fetches, read_at, fetched_at};
 ghost use Rattle.gier_word.specs.Cause.{HasCause, HasRisen};
 ghost use Rattle.gier_order.specs.Codes.{IsOrder};
 ghost use Rattle.gier_exec.specs.Reading.{CanRead, Reads, seen};
@@ -17,6 +21,7 @@ use gier_word::Failed;
 const TRACK: u32 = 40;
 
 /// The word at an address of the object.
+#[inline(always)]
 pub(crate) fn read_word<D: Drum>(
     object: &Object,
     drum: &mut D,
@@ -29,6 +34,8 @@ pub(crate) fn read_word<D: Drum>(
     requires within { address < object.now.words }
     ensures reads { Reads 1 object.now (seen D.room D.tracks D.journal D.faults drum.old places.old recent.old trace.old) (seen D.room D.tracks D.journal D.faults drum.new places.new recent.new trace.new) }
     ensures small { IfOk result (λ word. word < 2 ^ 40) }
+    ensures refers { Refers object.now (read_at address result) (seen D.room D.tracks D.journal D.faults drum.old places.old recent.old trace.old) (seen D.room D.tracks D.journal D.faults drum.new places.new recent.new trace.new) }
+    ensures word { (tracks : List (List ℕ)) → D.tracks drum.old ≡ Some tracks → Agrees (Some tracks) places.old.held → IfOk result (λ word. word ≡ word_in tracks object.now address) }
     ensures cause { HasCause (D.faults drum.old) (D.faults drum.new) result }
 {
     let track = address / TRACK;
@@ -42,6 +49,8 @@ pub(crate) fn read_word<D: Drum>(
 }
 
 /// The same, where the address may be none of the object.
+#[inline(never)]
+#[tactic(auto, using(crate::proofs::Referrings::refers_none, crate::proofs::Referrings::word_read, crate::proofs::Referrings::word_past))]
 pub(crate) fn fetch<D: Drum>(
     object: &Object,
     drum: &mut D,
@@ -53,6 +62,8 @@ pub(crate) fn fetch<D: Drum>(
     requires can { CanRead 1 object.now (seen D.room D.tracks D.journal D.faults drum.old places.old recent.old trace.old) }
     ensures reads { Reads 1 object.now (seen D.room D.tracks D.journal D.faults drum.old places.old recent.old trace.old) (seen D.room D.tracks D.journal D.faults drum.new places.new recent.new trace.new) }
     ensures small { IfOk result (λ word. word < 2 ^ 40) }
+    ensures refers { Refers object.now (fetched_at address result) (seen D.room D.tracks D.journal D.faults drum.old places.old recent.old trace.old) (seen D.room D.tracks D.journal D.faults drum.new places.new recent.new trace.new) }
+    ensures row { (tracks : List (List ℕ)) → D.tracks drum.old ≡ Some tracks → Agrees (Some tracks) places.old.held → (go : ℕ → Row) → Fetches (reads (code_in tracks object.now) address go) go address result }
     ensures within { IfOk result (λ word. address < object.now.words) }
     ensures odd { result ≡ Err (Stopped Odd) → object.now.words ≤ address }
     ensures failed { result ≡ Err DrumFailed → HasRisen (D.faults drum.old) (D.faults drum.new) }

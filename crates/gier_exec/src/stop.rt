@@ -1,5 +1,6 @@
 // Why an order doesn't let the run go on, by what the order has to do with.
 ghost use Rattle.std.specs.Prelude.{◌≡◌};
+ghost use Rattle.gier_exec.specs.Following.{stop_of};
 
 use gier_frames::Halt;
 use gier_word::Alarm;
@@ -36,7 +37,9 @@ pub(crate) enum Quit {
 }
 
 impl From<Halt> for Stop {
-    fn from(halt: Halt) -> Stop {
+    fn from(halt: Halt) -> Stop
+        ensures { result ≡ stop_of halt }
+    {
         match halt {
             Halt::Alarm(alarm) => Stop::Alarm(alarm),
             Halt::Odd => Stop::Odd,

@@ -1,12 +1,20 @@
 // The orders that go on with the next one and read nothing of the object: values, places, arrays, blocks.
-ghost use Rattle.std.specs.Prelude.{◌≡◌, ◌+◌, ◌<◌, ◌≤◌, ◌^◌, IfOk, Err, OnOk, length};
+ghost use Rattle.std.specs.Prelude.{◌≡◌, ◌+◌, ◌<◌, ◌≤◌, ◌^◌, ◌==◌, ◌||◌, ℕ, true, List, IfOk, Err, OnOk, IsTrue, length, if◌then◌else◌};
+ghost use Rattle.gier_order.specs.declared.operation.Operation.TheVariants.{Index, Keep, Put, Lab, Array, Block, Start, Leave};
+ghost use Rattle.gier_order.specs.Flat.Row.{Row};
+ghost use Rattle.gier_order.specs.Flat.Rows.{effect, cell_word, in_level};
+ghost use Rattle.gier_exec.specs.Registers.{Registers};
+ghost use Rattle.gier_exec.specs.Rows.{regs_of};
+ghost use Rattle.gier_exec.specs.Numbers.{is_combined, is_value, is_plain, is_start};
+ghost use Rattle.gier_exec.specs.Following.{Gets, ComesOn, ComesWith};
 ghost use Rattle.gier_order.specs.Codes.{IsOrder};
+ghost use Rattle.gier_frames.specs.State.{IsKept};
 ghost use Rattle.gier_exec.specs.Registers.{Keeps, weight};
 ghost use Rattle.gier_exec.specs.declared.stop.Stop.TheVariants.{Odd};
 
 use crate::Machine;
 use crate::frame::{as_word, here, local, place_of, read, write};
-use crate::number::{computed, holds, negative, tested};
+use crate::number::{combination, negative};
 use crate::stop::Stop;
 use gier_frames::{Frames, Halt};
 use gier_order::{Operation, Order};
@@ -21,7 +29,9 @@ pub(crate) fn plain(
     operation: Operation,
     order: Order,
 ) -> Result<(), Stop>
-    requires { IsOrder order }
+    requires order { IsOrder order }
+    requires kept { IsKept frames.old }
+    ensures row { (code input : List ℕ) → IsTrue (frames.old.entered || is_start operation) → is_plain operation ≡ true → m.old.place + 1 < length code → ComesOn (effect code (length frames.old.words) (regs_of m.old frames.old input) operation order.level order.address) (regs_of m.new frames.new input) result }
     ensures keeps { Keeps m.old m.new }
     ensures lighter { OnOk result (weight m.new ≤ weight m.old) }
     ensures size { length frames.new.words ≡ length frames.old.words }
@@ -48,8 +58,10 @@ pub(crate) fn plain(
 
 // What R becomes by an order that changes nothing else.
 fn value(m: &Machine, frames: &Frames, operation: Operation, order: Order) -> Result<u64, Stop>
-    requires { IsOrder order }
-    ensures { IfOk result (λ word. word < 2 ^ 40) }
+    requires order { IsOrder order }
+    requires kept { IsKept frames.now }
+    ensures row { (code input : List ℕ) → frames.now.entered ≡ true → m.now.place + 1 < length code → is_value operation ≡ true → ComesWith (effect code (length frames.now.words) (regs_of m.now frames.now input) operation order.level order.address) (regs_of m.now frames.now input) result }
+    ensures small { IfOk result (λ word. word < 2 ^ 40) }
 {
     match operation {
         Operation::Take => take(frames, order),
@@ -69,19 +81,14 @@ fn value(m: &Machine, frames: &Frames, operation: Operation, order: Order) -> Re
 
 // The orders on w and R.
 fn combined(m: &Machine, frames: &Frames, operation: Operation, address: u32) -> Result<u64, Stop>
-    ensures { IfOk result (λ word. word < 2 ^ 40) }
+    ensures row { (code input : List ℕ) → frames.now.entered ≡ true → m.now.place + 1 < length code → (l : ℕ) → is_combined operation ≡ true → ComesWith (effect code (length frames.now.words) (regs_of m.now frames.now input) operation l address) (regs_of m.now frames.now input) result }
+    ensures small { IfOk result (λ word. word < 2 ^ 40) }
 {
     let w = match local(frames, address) {
         Ok(word) => word,
         Err(stop) => return Err(stop),
     };
-    let result = match operation {
-        Operation::Add | Operation::Sub | Operation::Mul | Operation::Div | Operation::Pow =>
-            computed(operation, w, m.r()),
-        Operation::Test => tested(w, m.r()),
-        _ => Ok(u64::from(holds(operation, w, m.r()))),
-    };
-    match result {
+    match combination(operation, w, m.r()) {
         Ok(word) => Ok(word),
         Err(alarm) => Err(Stop::Alarm(alarm)),
     }
@@ -90,7 +97,8 @@ fn combined(m: &Machine, frames: &Frames, operation: Operation, address: u32) ->
 // TAKE: cell.
 fn take(frames: &Frames, order: Order) -> Result<u64, Stop>
     requires { IsOrder order }
-    ensures { IfOk result (λ word. word < 2 ^ 40) }
+    ensures row { (code input : List ℕ) (m : Registers) (go : ℕ → Row) → frames.now.entered ≡ true → Gets (cell_word code (length frames.now.words) (regs_of m frames.now input) order.level order.address (λ place word. go word)) go result }
+    ensures small { IfOk result (λ word. word < 2 ^ 40) }
 {
     match place_of(frames, order.level, order.address) {
         Ok(place) => read(frames, place),
@@ -100,7 +108,8 @@ fn take(frames: &Frames, order: Order) -> Result<u64, Stop>
 
 // BASE: C, or the base of the visible activation of a level.
 fn base(frames: &Frames, level: u8) -> Result<u64, Stop>
-    ensures { IfOk result (λ word. word < 2 ^ 40) }
+    ensures row { (code input : List ℕ) (m : Registers) (go : ℕ → Row) → frames.now.entered ≡ true → Gets (if level == 0 then go frames.now.base else in_level code (length frames.now.words) (regs_of m frames.now input) level (λ b. go b)) go result }
+    ensures small { IfOk result (λ word. word < 2 ^ 40) }
 {
     if level > 0 {
         return place_of(frames, level, 0);
@@ -110,7 +119,9 @@ fn base(frames: &Frames, level: u8) -> Result<u64, Stop>
 
 // INDEX: the place of an element.
 fn element(frames: &Frames, order: Order) -> Result<u64, Stop>
-    ensures { IfOk result (λ word. word < 2 ^ 40) }
+    requires kept { IsKept frames.now }
+    ensures row { (code input : List ℕ) (m : Registers) → frames.now.entered ≡ true → m.place + 1 < length code → ComesWith (effect code (length frames.now.words) (regs_of m frames.now input) Index order.level order.address) (regs_of m frames.now input) result }
+    ensures small { IfOk result (λ word. word < 2 ^ 40) }
 {
     match frames.index(order.level, order.address) {
         Ok(place) => as_word(place),
@@ -120,6 +131,7 @@ fn element(frames: &Frames, order: Order) -> Result<u64, Stop>
 
 // KEEP: w := R.
 fn keep(m: &mut Machine, frames: &mut Frames, address: u32) -> Result<(), Stop>
+    ensures row { (code input : List ℕ) → (l : ℕ) → frames.old.entered ≡ true → m.old.place + 1 < length code → ComesOn (effect code (length frames.old.words) (regs_of m.old frames.old input) Keep l address) (regs_of m.new frames.new input) result }
     ensures same { m.new ≡ m.old }
     ensures size { length frames.new.words ≡ length frames.old.words }
     ensures odd { result ≡ Err Odd → frames.new ≡ frames.old }
@@ -132,6 +144,7 @@ fn keep(m: &mut Machine, frames: &mut Frames, address: u32) -> Result<(), Stop>
 
 // PUT: the word at place w := R.
 fn put(m: &mut Machine, frames: &mut Frames, address: u32) -> Result<(), Stop>
+    ensures row { (code input : List ℕ) → (l : ℕ) → frames.old.entered ≡ true → m.old.place + 1 < length code → ComesOn (effect code (length frames.old.words) (regs_of m.old frames.old input) Put l address) (regs_of m.new frames.new input) result }
     ensures same { m.new ≡ m.old }
     ensures size { length frames.new.words ≡ length frames.old.words }
     ensures odd { result ≡ Err Odd → frames.new ≡ frames.old }
@@ -145,6 +158,7 @@ fn put(m: &mut Machine, frames: &mut Frames, address: u32) -> Result<(), Stop>
 // LAB: R := an address of the object, Q := the base of the visible activation of a level.
 fn form_label(m: &mut Machine, frames: &mut Frames, order: Order) -> Result<(), Stop>
     requires { IsOrder order }
+    ensures row { (code input : List ℕ) → frames.old.entered ≡ true → m.old.place + 1 < length code → ComesOn (effect code (length frames.old.words) (regs_of m.old frames.old input) Lab order.level order.address) (regs_of m.new frames.new input) result }
     ensures keeps { Keeps m.old m.new }
     ensures lighter { weight m.new ≤ weight m.old }
     ensures size { length frames.new.words ≡ length frames.old.words }
@@ -163,6 +177,8 @@ fn form_label(m: &mut Machine, frames: &mut Frames, order: Order) -> Result<(), 
 // START: the first activation, without a step.
 #[tactic(auto, using(crate::proofs::Sizes::length_started))]
 fn start(m: &mut Machine, frames: &mut Frames, order: Order) -> Result<(), Stop>
+    requires kept { IsKept frames.old }
+    ensures row { (code input : List ℕ) → m.old.place + 1 < length code → ComesOn (effect code (length frames.old.words) (regs_of m.old frames.old input) Start order.level order.address) (regs_of m.new frames.new input) result }
     ensures keeps { Keeps m.old m.new }
     ensures lighter { weight m.new ≤ weight m.old }
     ensures size { length frames.new.words ≡ length frames.old.words }
@@ -180,6 +196,8 @@ fn start(m: &mut Machine, frames: &mut Frames, order: Order) -> Result<(), Stop>
 // ARRAY: takes the elements of an array, whose bounds stand from C + R on.
 #[tactic(auto, using(crate::proofs::Sizes::length_array))]
 fn take_array(m: &mut Machine, frames: &mut Frames, order: Order) -> Result<(), Stop>
+    requires kept { IsKept frames.old }
+    ensures row { (code input : List ℕ) → frames.old.entered ≡ true → m.old.place + 1 < length code → ComesOn (effect code (length frames.old.words) (regs_of m.old frames.old input) Array order.level order.address) (regs_of m.new frames.new input) result }
     ensures same { m.new ≡ m.old }
     ensures size { length frames.new.words ≡ length frames.old.words }
     ensures odd { result ≡ Err Odd → frames.new ≡ frames.old }
@@ -196,6 +214,8 @@ fn take_array(m: &mut Machine, frames: &mut Frames, order: Order) -> Result<(), 
 // BLOCK: enters a block, enclosed by the current activation.
 #[tactic(auto, using(crate::proofs::Sizes::length_block))]
 fn enter_block(m: &mut Machine, frames: &mut Frames, order: Order) -> Result<(), Stop>
+    requires kept { IsKept frames.old }
+    ensures row { (code input : List ℕ) → frames.old.entered ≡ true → m.old.place + 1 < length code → ComesOn (effect code (length frames.old.words) (regs_of m.old frames.old input) Block order.level order.address) (regs_of m.new frames.new input) result }
     ensures keeps { Keeps m.old m.new }
     ensures lighter { weight m.new ≤ weight m.old }
     ensures size { length frames.new.words ≡ length frames.old.words }
@@ -223,6 +243,8 @@ fn enter_block(m: &mut Machine, frames: &mut Frames, order: Order) -> Result<(),
 
 // LEAVE: leaves a block for the activation before it.
 fn leave_block(m: &mut Machine, frames: &mut Frames) -> Result<(), Stop>
+    requires kept { IsKept frames.old }
+    ensures row { (code input : List ℕ) → (l a : ℕ) → frames.old.entered ≡ true → m.old.place + 1 < length code → ComesOn (effect code (length frames.old.words) (regs_of m.old frames.old input) Leave l a) (regs_of m.new frames.new input) result }
     ensures keeps { Keeps m.old m.new }
     ensures lighter { weight m.new ≤ weight m.old }
     ensures size { length frames.new.words ≡ length frames.old.words }

@@ -1,6 +1,6 @@
 // The frames: opening, the orders that enter and leave blocks, and reads and writes of single words.
 ghost use Rattle.std.specs.Prelude.{◌≡◌, ◌+◌, ◌*◌, ◌<◌, ◌≤◌, ◌^◌, ℕ, true, length, replicate, slice_index, slice_set, IfOk, OnOk, OnErr};
-ghost use Rattle.gier_frames.specs.State.{fresh, cleared};
+ghost use Rattle.gier_frames.specs.State.{IsKept, fresh, cleared};
 ghost use Rattle.gier_frames.specs.Answers.{Answers};
 ghost use Rattle.gier_frames.specs.Refusals.{start_refusal, block_refusal, leave_refusal, place_refusal, base_refusal, room_refusal, is_place, odd_unless};
 ghost use Rattle.gier_frames.specs.Effects.{entered_one, started, entered_block, left, written};
@@ -137,7 +137,8 @@ impl Frames {
     /// Odd where none of this level is visible.
     #[tactic(auto, using(crate::proofs::Displaying::shown_answers))]
     pub fn cell(&self, level: u8, address: u32) -> Result<u64, Halt>
-        ensures { result ≡ cell_of self.now level address }
+        ensures value { result ≡ cell_of self.now level address }
+        ensures kept { IsKept self.now }
     {
         if !self.entered {
             return Err(Halt::Odd);
@@ -153,6 +154,7 @@ impl Frames {
     pub fn here(&self, address: u32) -> Result<u64, Halt>
         ensures refused { Answers (base_refusal self.now) result }
         ensures place { IfOk result (λ place. place ≡ self.now.base + address) }
+        ensures kept { IsKept self.now }
     {
         if self.entered {
             Ok(self.base + u64::from(address))

@@ -1,0 +1,5 @@
+use Rattle.std.proofs.Common.{sym}
+use Rattle.gier_exec.proofs.frame.local.Goals as goal
+
+pub returns-in-Ok-clause-row : goal.returns-in-Ok-clause-row
+returns-in-Ok-clause-row c = λ code input m go entered. rw (sym c.in-Ok.ensures.place) (c.read.ensures.row code input m go entered)

@@ -1,0 +1,53 @@
+-- How what a part of the machine answers stands to a row of the order table. Such a part goes on with what it found, and
+-- so does the row; or the order isn't allowed, and so by the row.
+use Rattle.std.specs.Prelude.{◌≡◌, ◌+◌, ◌&&◌, ℕ, nat_lt, nat_le, max, List, length, Result, Ok, Err}
+use Rattle.gier_frames.specs.declared.halt.Halt.{Halt}
+use Rattle.gier_frames.specs.declared.halt.Halt.TheVariants.{Alarm as HaltAlarm, Odd as HaltOdd}
+use Rattle.gier_order.specs.Flat.Row.{Regs, Ended as HasEnded, Alarmed, NoSteps, On, Ends, Row, plain, odd, needs}
+use Rattle.gier_order.specs.Flat.Rows.{word_at, pays}
+use Rattle.gier_exec.specs.declared.stop.Stop.{Stop}
+use Rattle.gier_exec.specs.declared.stop.Stop.TheVariants.{Ended, Alarm, Steps, Odd}
+
+-- what refuses a call of the frames ends an order so
+abbrev pub stop_of : Halt → Stop
+stop_of (HaltAlarm alarm) = Alarm alarm
+stop_of HaltOdd = Odd
+
+-- the row is odd, as the part is; no part that only finds something stops otherwise
+abbrev pub Refused : Row → Stop → Type 0
+Refused row Ended = ⊥
+Refused row (Alarm alarm) = ⊥
+Refused row Steps = ⊥
+Refused row Odd = row ≡ odd
+
+-- the row goes on with what was found
+abbrev pub Gets : {A : Type 0} → Row → (A → Row) → Result A Stop → Type 0
+Gets row go (Ok x) = row ≡ go x
+Gets row go (Err stop) = Refused row stop
+
+-- the row comes to these registers where an order stops or is odd
+abbrev pub Halts : Row → Regs → Stop → Type 0
+Halts row regs Ended = row ≡ plain (Ends HasEnded regs)
+Halts row regs (Alarm alarm) = row ≡ plain (Ends (Alarmed alarm) regs)
+Halts row regs Steps = row ≡ plain (Ends NoSteps regs)
+Halts row regs Odd = row ≡ odd
+
+-- the row goes on at an address, or halts
+abbrev pub Comes : Row → Regs → Result ℕ Stop → Type 0
+Comes row regs (Ok next) = row ≡ plain (On (record regs { place = next }))
+Comes row regs (Err stop) = Halts row regs stop
+
+-- the row goes on with the order after, or halts
+abbrev pub ComesOn : Row → Regs → Result (Unit {0}) Stop → Type 0
+ComesOn row regs (Ok done) = row ≡ plain (On (record regs { place = regs.place + 1 }))
+ComesOn row regs (Err stop) = Halts row regs stop
+
+-- the row gives a word to R and goes on with the order after, or halts
+abbrev pub ComesWith : Row → Regs → Result ℕ Stop → Type 0
+ComesWith row regs (Ok word) = row ≡ plain (On (record regs { r = word; place = regs.place + 1 }))
+ComesWith row regs (Err stop) = Halts row regs stop
+
+-- GO where R is not 0
+abbrev pub leaps : (code : List ℕ) (size : ℕ) (m : Regs) → Row
+leaps code size m = word_at code size m (m.q + 2) (λ top.
+    needs (nat_le top size && nat_lt m.r (length code)) (pays code size m m.left m.r (record m { base = m.q; top = top; greatest = max m.greatest top })))
