@@ -4,3 +4,6 @@ pub mod Tails
 pub mod Status
 pub mod Answer
 pub mod Checked
+pub mod RunTails
+pub mod Reply
+pub mod ReplyExamples

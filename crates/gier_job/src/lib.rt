@@ -3,6 +3,7 @@
 
 mod answer;
 mod command;
+mod laws;
 mod mortem;
 mod printing;
 mod running;
@@ -14,6 +15,7 @@ mod working;
 pub use answer::gier;
 pub use command::{Command, read_words};
 pub use gier_runner::Settings;
+pub use laws::law_reply;
 pub use status::{Status, status_text};
 pub use working::work;
 

@@ -35,6 +35,7 @@ pub(crate) fn put_mortem<K: Sink, D: Drum>(
 ) -> Result<(), Status>
     requires text { slice_index object.now.lengths 6 ≤ capacity_of longest }
     requires room { all_tracks longest ≤ D.room drum.old }
+    ensures room { D.room drum.new ≡ D.room drum.old }
     ensures stop { IfErr result IsStop }
     ensures printer_fault { IsErrOf result Printer → HasRisen (K.faults out.old) (K.faults out.new) }
     ensures drum_fault { IsErrOf result DrumStatus → HasRisen (D.faults drum.old) (D.faults drum.new) }
@@ -73,6 +74,7 @@ fn find_lines<D: Drum>(lines: &mut Lines, object: &Object, drum: &mut D) -> Resu
     requires text { slice_index object.now.lengths 6 ≤ capacity_of longest }
     requires room { all_tracks longest ≤ D.room drum.old }
     ensures asked { length lines.new.asked.items ≡ length lines.old.asked.items }
+    ensures room { D.room drum.new ≡ D.room drum.old }
     ensures stop { IfErr result IsStop }
     ensures not_printer { IsErrOf result Printer → ⊥ }
     ensures drum_fault { IsErrOf result DrumStatus → HasRisen (D.faults drum.old) (D.faults drum.new) }

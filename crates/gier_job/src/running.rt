@@ -44,6 +44,10 @@ pub(crate) fn run_fronted<S: Source, K: Sink, D: Drum>(
     requires room { all_tracks longest ≤ D.room drum.old }
     requires traced { command.now.best ≡ true → runner.old.trace.tracks ≡ object_tracks longest }
     ensures of_run { IsOfRun result }
+    ensures limit { (kept tables.new).limit ≡ longest }
+    ensures room { D.room drum.new ≡ D.room drum.old }
+    ensures settings { runner.new.settings ≡ runner.old.settings }
+    ensures traces { runner.new.trace.tracks ≡ runner.old.trace.tracks }
     ensures tape_fault { result ≡ Tape → HasRisen (S.faults tape.old) (S.faults tape.new) }
     ensures printer_fault { result ≡ Printer → HasRisen (K.faults out.old) (K.faults out.new) }
     ensures drum_fault { result ≡ DrumStatus → HasRisen (D.faults drum.old) (D.faults drum.new) }
@@ -77,6 +81,9 @@ fn conclude<K: Sink, D: Drum>(
     requires text { slice_index object.now.lengths 6 ≤ capacity_of longest }
     requires room { all_tracks longest ≤ D.room drum.old }
     ensures stop { IfErr result IsStop }
+    ensures room { D.room drum.new ≡ D.room drum.old }
+    ensures settings { runner.new.settings ≡ runner.old.settings }
+    ensures traces { runner.new.trace.tracks ≡ runner.old.trace.tracks }
     ensures printer_fault { IsErrOf result Printer → HasRisen (K.faults out.old) (K.faults out.new) }
     ensures drum_fault { IsErrOf result DrumStatus → HasRisen (D.faults drum.old) (D.faults drum.new) }
     ensures printer_later { K.faults out.old ≤ K.faults out.new }
@@ -107,6 +114,8 @@ fn put_stopped<K: Sink>(
 ) -> Result<(), Failed>
     requires within { IsWithin command.now.settings }
     requires noted { command.now.best ≡ true → AreTracks runner.old.trace }
+    ensures settings { runner.new.settings ≡ runner.old.settings }
+    ensures traces { runner.new.trace.tracks ≡ runner.old.trace.tracks }
     ensures cause { HasCause (K.faults out.old) (K.faults out.new) result }
 {
     match put_ending(ending, out) {
@@ -130,6 +139,8 @@ fn put_ending<K: Sink>(ending: Ending, out: &mut K) -> Result<(), Failed>
 fn put_counts<K: Sink>(command: &Command, runner: &mut Runner, out: &mut K) -> Result<(), Failed>
     requires within { IsWithin command.now.settings }
     requires noted { command.now.best ≡ true → AreTracks runner.old.trace }
+    ensures settings { runner.new.settings ≡ runner.old.settings }
+    ensures traces { runner.new.trace.tracks ≡ runner.old.trace.tracks }
     ensures cause { HasCause (K.faults out.old) (K.faults out.new) result }
 {
     if command.report {
@@ -171,6 +182,8 @@ fn put_cheapest<K: Sink>(places: u8, runner: &mut Runner, out: &mut K) -> Result
     requires least { 1 ≤ places }
     requires most { places ≤ 64 }
     requires noted { AreTracks runner.old.trace }
+    ensures settings { runner.new.settings ≡ runner.old.settings }
+    ensures traces { runner.new.trace.tracks ≡ runner.old.trace.tracks }
     ensures cause { HasCause (K.faults out.old) (K.faults out.new) result }
 {
     let trace = runner.trace();

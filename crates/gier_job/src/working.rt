@@ -43,6 +43,12 @@ pub fn work<S: Source, K: Sink, D: Drum>(
     ensures not_words { result ≢ Words }
     ensures not_memory { result ≢ Memory }
 
+    // The same room serves again, whatever the answer was.
+    ensures limit { (kept tables.new).limit ≡ longest }
+    ensures room { D.room drum.new ≡ D.room drum.old }
+    ensures settings { runner.new.settings ≡ runner.old.settings }
+    ensures traces { runner.new.trace.tracks ≡ runner.old.trace.tracks }
+
     // `check` prints the errors of the program and nothing else, and just the program text is taken.
     ensures checks { command.now.check ≡ true → Prints result (K.holds out.old) (K.holds out.new) }
     ensures checked { command.now.check ≡ true → TakesFor command.now.sample result (S.left tape.old) (S.left tape.new) }
