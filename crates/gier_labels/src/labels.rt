@@ -1,27 +1,27 @@
-// The two lists: labels, switches and procedures of the program are numbered from 0, all other labels from `FIRST_OTHER` up. Each list
-// grows as far as the greatest number of its kind whose word was set.
+// The list of words: labels, switches and procedures of the program are numbered from 0, all other labels from `FIRST_OTHER` up. The
+// words of both kinds stand side by side, so the list grows, and memory is touched, only as far as the greatest number whose word was
+// set.
 ghost use Rattle.std.specs.Prelude.{◌≡◌, ◌<◌, ◌≤◌, ◌+◌, ◌-◌, ◌*◌, ◌^◌, ℕ, [], length};
 ghost use Rattle.gier_text.specs.Kept.{kept};
 ghost use Rattle.gier_text.specs.Lists.{list_at};
-ghost use Rattle.gier_labels.specs.Labels.{HasLabels, KeepsOthers, list_of, place_of, word_of};
+ghost use Rattle.gier_labels.specs.Labels.{HasLabels, KeepsOthers, part_of, place_of, word_of};
 
 use gier_text::Tables;
 
 /// The first number of a label that the program doesn't declare.
 pub const FIRST_OTHER: u64 = 1 << 23;
 
-// The list of the words of declared labels, and that of the others.
+const LABELS: u8 = 0;
+
+// An entry is the word of a declared label, and that of another one.
+const WIDTH: u8 = 2;
+
 const DECLARED: u8 = 0;
 
 const OTHER: u8 = 1;
 
-// An entry is one word.
-const WIDTH: u8 = 1;
-
-const WORD: u8 = 0;
-
-fn list_of(number: u64) -> u8
-    ensures { result ≡ list_of number }
+fn part_of(number: u64) -> u8
+    ensures { result ≡ part_of number }
 {
     if number < FIRST_OTHER {
         DECLARED
@@ -40,17 +40,16 @@ fn place_of(number: u64) -> u64
     }
 }
 
-/// Opens the words as the first two lists of the tables, for `room` numbers of each kind.
+/// Opens the words as the first list of the tables, for `room` numbers of each kind.
 pub fn open(tables: &mut Tables, room: u32)
     requires none { (kept tables.old).lists ≡ [] }
     requires fits { (kept tables.old).used + 2 * room ≤ 62 * (kept tables.old).limit + 4092 }
     ensures labels { HasLabels room (kept tables.new) }
-    ensures lists { length (kept tables.new).lists ≡ 2 }
+    ensures lists { length (kept tables.new).lists ≡ 1 }
     ensures used { (kept tables.new).used ≡ (kept tables.old).used + 2 * room }
     ensures limit { (kept tables.new).limit ≡ (kept tables.old).limit }
     ensures faults { (kept tables.new).faults ≡ (kept tables.old).faults }
 {
-    tables.list(WIDTH, room);
     tables.list(WIDTH, room);
 }
 
@@ -60,25 +59,24 @@ pub fn word(tables: &Tables, number: u64) -> u64
     ensures value { result ≡ word_of (kept tables.now) number }
     ensures small { result < 2 ^ 40 }
 {
-    let (list, place) = (list_of(number), place_of(number));
-    if place < u64::from(tables.len(list)) {
-        tables.word(list, place as u32, WORD)
+    let place = place_of(number);
+    if place < u64::from(tables.len(LABELS)) {
+        tables.word(LABELS, place as u32, part_of(number))
     } else {
         0
     }
 }
 
 // Fills the list with zeros as far as this place.
-fn reach(tables: &mut Tables, list: u8, place: u32, room: u32)
+fn reach(tables: &mut Tables, place: u32, room: u32)
     requires labels { HasLabels room (kept tables.old) }
-    requires list { list < 2 }
     requires place { place < room }
     ensures labels { HasLabels room (kept tables.new) }
     ensures others { KeepsOthers (kept tables.old) (kept tables.new) }
-    ensures reached { place < (list_at (kept tables.new).lists list).count }
+    ensures reached { place < (list_at (kept tables.new).lists 0).count }
 {
-    for _turn in tables.len(list)..place + 1 {
-        tables.push(list, &[0]);
+    for _turn in tables.len(LABELS)..place + 1 {
+        tables.push(LABELS, &[0, 0]);
     }
 }
 
@@ -89,9 +87,9 @@ pub fn set_word(tables: &mut Tables, number: u64, word: u64, room: u32)
     ensures labels { HasLabels room (kept tables.new) }
     ensures others { KeepsOthers (kept tables.old) (kept tables.new) }
 {
-    let (list, place) = (list_of(number), place_of(number));
+    let place = place_of(number);
     if place < u64::from(room) {
-        reach(tables, list, place as u32, room);
-        tables.set_word(list, place as u32, WORD, word);
+        reach(tables, place as u32, room);
+        tables.set_word(LABELS, place as u32, part_of(number), word);
     }
 }

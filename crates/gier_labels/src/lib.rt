@@ -1,4 +1,4 @@
-// A word for each label number, found by the number, in two lists of the tables. What the words mean isn't told here.
+// A word for each label number, found by the number, in a list of the tables. What the words mean isn't told here.
 #![tactic(auto)]
 
 mod labels;

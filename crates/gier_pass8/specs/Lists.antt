@@ -14,10 +14,10 @@ pub record IsWritable (s : Symbol) : Type 0 where
 
 -- the words of labels, and the needs
 pub record HasLists (bytes : ℕ) (t : Kept) : Type 0 where
-  pub count : length t.lists ≡ 3
+  pub count : length t.lists ≡ 2
   pub labels : HasLabels (20 * bytes + 64) t
-  pub width : (list_at t.lists 2).width ≡ 1
-  pub capacity : (list_at t.lists 2).capacity ≡ 20 * bytes + 64
+  pub width : (list_at t.lists 1).width ≡ 1
+  pub capacity : (list_at t.lists 1).capacity ≡ 20 * bytes + 64
 
 pub record Keeps (bytes : ℕ) (old new : Kept) : Type 0 where
   pub lists : HasLists bytes new

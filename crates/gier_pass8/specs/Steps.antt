@@ -32,7 +32,7 @@ word_with other s = s
 
 -- what the innermost activation needs that was read whole
 abbrev pub last_need : Kept → ℕ
-last_need t = if (list_at t.lists 2).count == 0 then 0 else word_at (list_at t.lists 2) ((list_at t.lists 2).count - 1) 0
+last_need t = if (list_at t.lists 1).count == 0 then 0 else word_at (list_at t.lists 1) ((list_at t.lists 1).count - 1) 0
 
 -- orders and words
 abbrev pub word8_of : Kept → Symbol → Option Symbol

@@ -13,7 +13,7 @@ use gier_symbol::{Symbol, Tag, stands_in};
 use gier_text::Tables;
 
 /// The list of what activations need whose rooms weren't met yet, the innermost last.
-pub(crate) const NEEDS: u8 = 2;
+pub(crate) const NEEDS: u8 = 1;
 
 pub(crate) const NEED_WIDTH: u8 = 1;
 

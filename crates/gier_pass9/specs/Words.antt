@@ -30,7 +30,7 @@ word_of t s =
     else (if nat_lt s.tag 128 then s.value
     else order_word s))
 
--- the words of labels stay two lists with room for so many, and the faults stay
+-- the words of labels stay a list with room for so many, and the faults stay
 pub record KeepsLabels (room : ℕ) (old new : Kept) : Type 0 where
   pub labels : HasLabels room new
   pub limit : new.limit ≡ old.limit

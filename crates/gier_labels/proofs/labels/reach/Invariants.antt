@@ -8,5 +8,5 @@ abbrev pub invariant-loop-turn : goal.invariant-loop-turn
 invariant-loop-turn l = record {
   labels : HasLabels l.room (kept l.tables);
   others : KeepsOthers (kept l.initial.tables) (kept l.tables);
-  count : (list_at (kept l.tables).lists l.list).count ≡ l._turn;
+  count : (list_at (kept l.tables).lists 0).count ≡ l._turn;
 }
