@@ -12,9 +12,10 @@ use Rattle.gier_order.specs.Flat.Row.{Regs, Row, needs, odd}
 use Rattle.gier_order.specs.Flat.Region.{seek}
 use Rattle.gier_order.specs.Flat.Rows.{word_at, in_level, from_base}
 use Rattle.gier_exec.specs.declared.stop.Stop.{Stop}
+use Rattle.gier_exec.specs.declared.stop.Stop.TheVariants.{Odd as StopOdd}
 use Rattle.gier_exec.specs.Registers.{Registers}
 use Rattle.gier_exec.specs.Rows.{regs_of}
-use Rattle.gier_exec.specs.Following.{Gets, Refused, stop_of}
+use Rattle.gier_exec.specs.Following.{Gets, Refused, stop_of, word_of}
 use Rattle.gier_exec.proofs.Regions.{found_in, seek_is}
 
 unless_refused : (b : Bool) (halt : Halt) → odd_unless b ≡ Some halt → (b ≡ false) × (halt ≡ HaltOdd)
@@ -32,6 +33,21 @@ pub word_refused : (s : State) (p : ℕ) (halt : Halt) → place_refusal s p ≡
 word_refused s p halt refused code input m go entered =
     let no = unless_refused _ halt refused in
     needs_refused (nat_lt p (length s.words)) halt (go (slice_index s.words p)) go (and_false s.entered (nat_lt p (length s.words)) no.0 entered) no.1
+
+-- the word that was read is the one of the state
+pub read_found : (s : State) (p word : ℕ) → place_refusal s p ≡ None → word ≡ slice_index s.words p → Ok word ≡ word_of s p
+read_found s p word free is = rw is (by s.entered (nat_lt p (length s.words)) free)
+  where
+    by : (a b : Bool) → odd_unless (a && b) ≡ None → Ok (slice_index s.words p) ≡ (if b then Ok (slice_index s.words p) else Err StopOdd)
+    by true true e = refl
+    by true false e = absurd cc
+    by false b e = absurd cc
+
+pub read_refused : (s : State) (p : ℕ) (halt : Halt) → place_refusal s p ≡ Some halt → s.entered ≡ true → Err (stop_of halt) ≡ word_of s p
+read_refused s p halt refused entered =
+    let no = unless_refused _ halt refused in
+    let past : nat_lt p (length s.words) ≡ false = and_false s.entered (nat_lt p (length s.words)) no.0 entered in
+    rw no.1 (rw past refl)
 
 -- the level's base in the row is that of the frames
 level_found : (s : State) (level : ℕ) (result : Result ℕ Halt) → s.entered ≡ true → result ≡ sought (suc s.base) s.words level s.base → found_in result ≡ seek (suc s.base) (length s.words) (slice_index s.words) level s.base

@@ -1,10 +1,12 @@
 -- How what a part of the machine answers stands to a row of the order table. Such a part goes on with what it found, and
 -- so does the row; or the order isn't allowed, and so by the row.
-use Rattle.std.specs.Prelude.{◌≡◌, ◌+◌, ◌&&◌, ℕ, nat_lt, nat_le, max, List, length, Result, Ok, Err}
+use Rattle.std.specs.Prelude.{◌≡◌, ◌+◌, ◌&&◌, ℕ, Bool, nat_lt, nat_le, max, if◌then◌else◌, List, length, slice_index, Result, Ok, Err}
+use Rattle.gier_frames.specs.State.{State}
 use Rattle.gier_frames.specs.declared.halt.Halt.{Halt}
 use Rattle.gier_frames.specs.declared.halt.Halt.TheVariants.{Alarm as HaltAlarm, Odd as HaltOdd}
 use Rattle.gier_order.specs.Flat.Row.{Regs, Ended as HasEnded, Alarmed, NoSteps, On, Ends, Row, plain, odd, needs}
 use Rattle.gier_order.specs.Flat.Rows.{word_at, pays}
+use Rattle.gier_exec.specs.Registers.{Registers}
 use Rattle.gier_exec.specs.declared.stop.Stop.{Stop}
 use Rattle.gier_exec.specs.declared.stop.Stop.TheVariants.{Ended, Alarm, Steps, Odd}
 
@@ -51,3 +53,11 @@ ComesWith row regs (Err stop) = Halts row regs stop
 abbrev pub leaps : (code : List ℕ) (size : ℕ) (m : Regs) → Row
 leaps code size m = word_at code size m (m.q + 2) (λ top.
     needs (nat_le top size && nat_lt m.r (length code)) (pays code size m m.left m.r (record m { base = m.q; top = top; greatest = max m.greatest top })))
+
+-- the word at a place, where that is one of the stack's
+abbrev pub word_of : State → ℕ → Result ℕ Stop
+word_of s place = if nat_lt place (length s.words) then Ok (slice_index s.words place) else Err Odd
+
+-- some activation can be left, and the order to return to is one of so many words
+abbrev pub can_return : (words : ℕ) → Registers → State → Bool
+can_return words m s = nat_lt 0 m.depth && (nat_lt (s.base + 3) (length s.words) && nat_lt (slice_index s.words (s.base + 3)) words)

@@ -5,3 +5,9 @@ pub mod Rows
 pub mod Following
 pub mod Numbers
 pub mod References
+pub mod Turning
+pub mod Searching
+pub mod Beginning
+pub mod Calling
+pub mod Agreeing
+pub mod Standards

@@ -6,7 +6,7 @@ use Rattle.gier_word.specs.Alarm.{alarm_of}
 use Rattle.gier_word.specs.declared.alarm.Alarm.{Alarm}
 use Rattle.gier_word.specs.declared.int40.Spoil.{Spoil}
 use Rattle.gier_order.specs.declared.operation.Operation.{Operation}
-use Rattle.gier_order.specs.declared.operation.Operation.TheVariants.{Jump, False, Turn, Go, Long, Stop, Proc, Thunk, Kinds, Take, Short, Addr, Fetch, Neg, Not, Index, Base, Keep, Put, Block, Leave, Array, Lab, Start, Add, Sub, Mul, Div, Pow, Lt, Le, Eq, Ge, Gt, Ne, And, Or, Impl, Equiv, Test}
+use Rattle.gier_order.specs.declared.operation.Operation.TheVariants.{Return, Back, Give, Value, Place, NameL, Pass, Switch, SwForm, Jump, False, Turn, Go, Long, Stop, Proc, Thunk, Kinds, Take, Short, Addr, Fetch, Neg, Not, Index, Base, Keep, Put, Block, Leave, Array, Lab, Start, Add, Sub, Mul, Div, Pow, Lt, Le, Eq, Ge, Gt, Ne, And, Or, Impl, Equiv, Test, Call, Formal, CallF, Agree, ByVal, Lib}
 use Rattle.gier_order.specs.Flat.Rows.{truth, is_true, are_equal}
 
 -- the word of a number, or the alarm in its place
@@ -105,15 +105,28 @@ is_jump Jump = true
 is_jump False = true
 is_jump Turn = true
 is_jump Go = true
+is_jump Return = true
+is_jump Back = true
+is_jump Give = true
 is_jump operation = false
 
--- The orders of which `step_order` says what the flat run's row says: those on values, words and numbers, jumps, labels and
--- go to statements, blocks and arrays, START, STOP and the words that aren't executed. Of calls, evaluations, returns and
--- standard procedures it doesn't say so yet.
-abbrev pub is_settled : Operation → Bool
-is_settled Long = true
-is_settled Stop = true
-is_settled Proc = true
-is_settled Thunk = true
-is_settled Kinds = true
-is_settled operation = is_jump operation || is_plain operation
+-- the orders that enter the evaluation in a cell
+abbrev pub is_evaluation : Operation → Bool
+is_evaluation Value = true
+is_evaluation Place = true
+is_evaluation NameL = true
+is_evaluation Pass = true
+is_evaluation operation = false
+
+-- the orders that enter the evaluation of a switch's element
+abbrev pub is_choice : Operation → Bool
+is_choice Switch = true
+is_choice SwForm = true
+is_choice operation = false
+
+-- the orders that enter a procedure
+abbrev pub is_call : Operation → Bool
+is_call Call = true
+is_call Formal = true
+is_call CallF = true
+is_call operation = false

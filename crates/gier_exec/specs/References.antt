@@ -15,14 +15,6 @@ use Rattle.gier_exec.specs.declared.stop.Stop.{Stop}
 use Rattle.gier_exec.specs.declared.stop.Stop.TheVariants.{Ended, Alarm, Steps, Odd}
 use Rattle.gier_exec.specs.declared.stop.Miss.{Miss}
 use Rattle.gier_exec.specs.declared.stop.Miss.TheVariants.{Drum, Stop as Stopped}
-use Rattle.gier_exec.specs.declared.stop.Quit.{Quit}
-use Rattle.gier_exec.specs.declared.stop.Quit.TheVariants.{Miss as Missed, Read, Write}
-use Rattle.gier_exec.specs.declared.turn.Turn.{Turn}
-use Rattle.gier_exec.specs.declared.turn.Turn.TheVariants.{On as TurnOn, Ended as TurnEnded, Alarm as TurnAlarm, Steps as TurnSteps, Read as TurnRead, Write as TurnWrite, Drum as TurnDrum, Spoilt as TurnSpoilt}
-use Rattle.gier_order.specs.declared.operation.Operation.{Operation}
-use Rattle.gier_order.specs.declared.order.Order.{Order}
-use Rattle.gier_order.specs.Table.{operation_at}
-use Rattle.gier_exec.specs.Numbers.{is_settled}
 
 -- the tracks of these addresses on the drum, and within the object
 abbrev pub tracks_of : Object → List ℕ → List ℕ
@@ -76,41 +68,3 @@ abbrev pub Does : Row → List ℕ → Regs → Result ℕ Miss → Type 0
 Does row refs regs (Ok next) = row ≡ shown refs (On (record regs { place = next }))
 Does row refs regs (Err (Stopped stop)) = row ≡ shown refs (stop_step regs stop)
 Does row refs regs (Err Drum) = Begins refs row
-
--- the same of an order that may also print or take data; those of which this is said do neither
-abbrev pub DoesOrQuits : Row → List ℕ → Regs → Result ℕ Quit → Type 0
-DoesOrQuits row refs regs (Ok next) = Does row refs regs (Ok next)
-DoesOrQuits row refs regs (Err (Missed miss)) = Does row refs regs (Err miss)
-DoesOrQuits row refs regs (Err Read) = ⊥
-DoesOrQuits row refs regs (Err Write) = ⊥
-
-abbrev pub IsSettled : Option Operation → Type 0
-IsSettled None = ⊤
-IsSettled (Some operation) = is_settled operation ≡ true
-
--- a word that is no order, or an order of which `step_order` says what the row says
-abbrev pub IsSettledWord : Option Order → Type 0
-IsSettledWord None = ⊤
-IsSettledWord (Some order) = IsSettled (operation_at order.op)
-
--- One order, as the row of the flat run says it: the words read are the row's, and so are the registers, or how the run ends.
--- Where the drum failed, the words read are the first of the row's. An order that is odd has this word.
-abbrev pub Follows : Row → List ℕ → Regs → (place word : ℕ) → Turn → Type 0
-Follows row refs regs place word TurnOn = row ≡ shown refs (On regs)
-Follows row refs regs place word TurnEnded = row ≡ shown refs (Ends HasEnded regs)
-Follows row refs regs place word (TurnAlarm alarm) = row ≡ shown refs (Ends (Alarmed alarm) regs)
-Follows row refs regs place word TurnSteps = row ≡ shown refs (Ends NoSteps regs)
-Follows row refs regs place word (TurnSpoilt odd) = (row ≡ shown refs OddStep) × (odd ≡ record { place = place; word = word })
-Follows row refs regs place word TurnDrum = Begins refs row
-Follows row refs regs place word TurnRead = ⊥
-Follows row refs regs place word TurnWrite = ⊥
-
--- what comes of an order at a place, with its word, that doesn't let the run go on
-abbrev pub turned : Quit → (place word : ℕ) → Turn
-turned (Missed Drum) place word = TurnDrum
-turned (Missed (Stopped Ended)) place word = TurnEnded
-turned (Missed (Stopped (Alarm alarm))) place word = TurnAlarm alarm
-turned (Missed (Stopped Steps)) place word = TurnSteps
-turned (Missed (Stopped Odd)) place word = TurnSpoilt (record { place = place; word = word })
-turned Read place word = TurnRead
-turned Write place word = TurnWrite

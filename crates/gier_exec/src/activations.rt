@@ -1,7 +1,18 @@
 // The activations of procedures and evaluations: entering one that was found, and the orders that leave one.
-ghost use Rattle.std.specs.Prelude.{◌≡◌, ◌+◌, ◌<◌, ◌≤◌, ◌^◌, IfOk, Err, OnOk, length};
+ghost use Rattle.std.specs.Prelude.{◌≡◌, ◌≢◌, ◌+◌, ◌-◌, ◌<◌, ◌≤◌, ◌^◌, ◌&&◌, ℕ, true, nat_le, List, IfOk, Ok, Err, OnOk, length, slice_index, if◌then◌else◌};
+ghost use Rattle.gier_word.specs.declared.alarm.Alarm.TheVariants.{Assignment};
+ghost use Rattle.gier_order.specs.declared.operation.Operation.TheVariants.{Return, Back, Give};
+ghost use Rattle.gier_order.specs.Flat.Row.{Row, needs};
+ghost use Rattle.gier_order.specs.Flat.Rows.{effect, leaves, local as local_row};
+ghost use Rattle.gier_names.specs.Evaluations.{number_of};
+ghost use Rattle.gier_exec.specs.Rows.{regs_of};
+ghost use Rattle.gier_exec.specs.Following.{Comes, Gets, can_return};
+ghost use Rattle.gier_frames.specs.State.{IsKept};
+ghost use Rattle.gier_exec.specs.Finding.{IsFound};
+ghost use Rattle.gier_exec.specs.Beginning.{beginning};
+ghost use Rattle.gier_exec.specs.Registers.{Registers, Keeps, Goes};
+ghost use Rattle.gier_exec.specs.Calling.{entering, IsCallable};
 ghost use Rattle.gier_order.specs.Codes.{IsOrder};
-ghost use Rattle.gier_exec.specs.Registers.{Keeps, Goes};
 ghost use Rattle.gier_exec.specs.declared.stop.Stop.TheVariants.{Odd};
 
 use crate::Machine;
@@ -56,6 +67,8 @@ pub(crate) fn enter_procedure(
 ) -> Result<u32, Stop>
     requires next { entry.next < words }
     requires place { m.old.place < words }
+    requires kept { IsKept frames.old }
+    ensures row { (code input : List ℕ) → frames.old.entered ≡ true → IsCallable entry → Comes (entering code (length frames.old.words) (regs_of m.old frames.old input) entry) (regs_of m.new frames.new input) result }
     ensures keeps { Keeps m.old m.new }
     ensures goes { IfOk result (λ at. Goes words m.old at m.new) }
     ensures size { length frames.new.words ≡ length frames.old.words }
@@ -101,9 +114,10 @@ pub(crate) fn enter_evaluation(
     found: Evaluation,
     words: u32,
 ) -> Result<u32, Stop>
-    requires thunk { IsOrder found.thunk }
-    requires next { found.next < words }
+    requires found { IsFound words found }
     requires place { m.old.place < words }
+    requires kept { IsKept frames.old }
+    ensures row { (code input : List ℕ) → frames.old.entered ≡ true → Comes (beginning code (length frames.old.words) (regs_of m.old frames.old input) found) (regs_of m.new frames.new input) result }
     ensures keeps { Keeps m.old m.new }
     ensures goes { IfOk result (λ at. Goes words m.old at m.new) }
     ensures size { length frames.new.words ≡ length frames.old.words }
@@ -123,14 +137,23 @@ pub(crate) fn enter_evaluation(
             Ok(found.next)
         }
         Err(Halt::Odd) => Err(Stop::Odd),
-        Err(Halt::Alarm(Alarm::Assignment)) => {
-            m.enter();
-            Err(Stop::Alarm(Alarm::Assignment))
-        }
         Err(Halt::Alarm(alarm)) => {
-            m.charge();
+            pay_for(m, alarm);
             Err(Stop::Alarm(alarm))
         }
+    }
+}
+
+// Charges the step of an evaluation that ends the run with this alarm. With `assignment` it was entered.
+fn pay_for(m: &mut Machine, alarm: Alarm)
+    requires { 0 < m.old.steps }
+    ensures entered { alarm ≡ Assignment → m.new ≡ record m.old { steps = m.old.steps - 1; depth = m.old.depth + 1 } }
+    ensures paid { alarm ≢ Assignment → m.new ≡ record m.old { steps = m.old.steps - 1 } }
+    ensures keeps { Keeps m.old m.new }
+{
+    match alarm {
+        Alarm::Assignment => m.enter(),
+        _ => m.charge(),
     }
 }
 
@@ -141,19 +164,22 @@ pub(crate) fn leave_procedure(
     kind: u32,
     words: u32,
 ) -> Result<u32, Stop>
+    ensures row { (code input : List ℕ) (l : ℕ) → frames.old.entered ≡ true → length code ≡ words → Comes (effect code (length frames.old.words) (regs_of m.old frames.old input) Return l kind) (regs_of m.new frames.new input) result }
     ensures keeps { Keeps m.old m.new }
     ensures goes { IfOk result (λ at. Goes words m.old at m.new) }
     ensures size { length frames.new.words ≡ length frames.old.words }
     ensures odd { result ≡ Err Odd → (m.new ≡ m.old) × (frames.new ≡ frames.old) }
 {
-    let value = match kind {
-        0 => Ok(m.r()),
-        1 => local(frames, VALUE),
+    match kind {
+        0 => {
+            let r = m.r();
+            leave(m, frames, r, words)
+        }
+        1 => match local(frames, VALUE) {
+            Ok(value) => leave(m, frames, value, words),
+            Err(stop) => Err(stop),
+        },
         _ => Err(Stop::Odd),
-    };
-    match value {
-        Ok(value) => leave(m, frames, value, words),
-        Err(stop) => Err(stop),
     }
 }
 
@@ -163,6 +189,7 @@ pub(crate) fn leave_evaluation(
     frames: &mut Frames,
     words: u32,
 ) -> Result<u32, Stop>
+    ensures row { (code input : List ℕ) (l a : ℕ) → frames.old.entered ≡ true → length code ≡ words → Comes (effect code (length frames.old.words) (regs_of m.old frames.old input) Back l a) (regs_of m.new frames.new input) result }
     ensures keeps { Keeps m.old m.new }
     ensures goes { IfOk result (λ at. Goes words m.old at m.new) }
     ensures size { length frames.new.words ≡ length frames.old.words }
@@ -180,6 +207,7 @@ pub(crate) fn leave_evaluation(
 /// GIVE: leaves the evaluation of a variable with its value or its place.
 #[tactic(auto, using(crate::proofs::Falling::paid_falls))]
 pub(crate) fn leave_variable(m: &mut Machine, frames: &mut Frames, words: u32) -> Result<u32, Stop>
+    ensures row { (code input : List ℕ) (l a : ℕ) → frames.old.entered ≡ true → length code ≡ words → Comes (effect code (length frames.old.words) (regs_of m.old frames.old input) Give l a) (regs_of m.new frames.new input) result }
     ensures keeps { Keeps m.old m.new }
     ensures goes { IfOk result (λ at. Goes words m.old at m.new) }
     ensures size { length frames.new.words ≡ length frames.old.words }
@@ -200,7 +228,9 @@ pub(crate) fn leave_variable(m: &mut Machine, frames: &mut Frames, words: u32) -
 }
 
 /// What is wanted of the current activation; odd where it isn't an evaluation's.
-pub(crate) fn wanted_now(frames: &Frames) -> Result<Wanted, Stop> {
+pub(crate) fn wanted_now(frames: &Frames) -> Result<Wanted, Stop>
+    ensures row { (code input : List ℕ) (m : Registers) (go : ℕ → Row) → frames.now.entered ≡ true → Gets (local_row code (length frames.now.words) (regs_of m frames.now input) 4 (λ wanted. needs (nat_le 1 wanted && nat_le wanted 3) (go wanted))) (λ wanted. go (number_of wanted)) result }
+{
     match local(frames, WANTED) {
         Ok(number) => match Wanted::of(number) {
             Some(wanted) => Ok(wanted),
@@ -214,6 +244,7 @@ pub(crate) fn wanted_now(frames: &Frames) -> Result<Wanted, Stop> {
 #[tactic(auto, using(crate::proofs::Falling::paid_falls))]
 fn leave(m: &mut Machine, frames: &mut Frames, value: u64, words: u32) -> Result<u32, Stop>
     requires { value < 2 ^ 40 }
+    ensures row { (code input : List ℕ) → frames.old.entered ≡ true → length code ≡ words → Comes (leaves code (length frames.old.words) (regs_of m.old frames.old input) value) (regs_of m.new frames.new input) result }
     ensures keeps { Keeps m.old m.new }
     ensures goes { IfOk result (λ at. Goes words m.old at m.new) }
     ensures size { length frames.new.words ≡ length frames.old.words }
@@ -235,6 +266,7 @@ fn leave(m: &mut Machine, frames: &mut Frames, value: u64, words: u32) -> Result
 
 // The order to return to; odd where nothing was entered.
 fn return_to(m: &Machine, frames: &Frames, words: u32) -> Result<u32, Stop>
+    ensures found { frames.now.entered ≡ true → result ≡ (if can_return words m.now frames.now then Ok (slice_index frames.now.words (frames.now.base + 3)) else Err Odd) }
     ensures entered { IfOk result (λ next. 0 < m.now.depth) }
     ensures within { IfOk result (λ next. next < words) }
 {

@@ -1,5 +1,16 @@
 // Calls of procedures: the procedure is found by the words of the object, and then entered.
-ghost use Rattle.std.specs.Prelude.{◌≡◌, ◌+◌, ◌<◌, ◌≤◌, ◌^◌, IfOk, IfSome, length, Err};
+ghost use Rattle.std.specs.Prelude.{◌≡◌, ◌+◌, ◌<◌, ◌≤◌, ℕ, true, nat_lt, if◌then◌else◌, List, Some, IfOk, IfSome, length, Err};
+ghost use Rattle.gier_frames.specs.State.{IsKept};
+ghost use Rattle.gier_places.specs.Contents.{Agrees};
+ghost use Rattle.gier_order.specs.Flat.Row.{Regs, Row, odd};
+ghost use Rattle.gier_order.specs.Flat.Rows.{effect, word_at, reads_order, reads_count, reads_procedure, calls_bare, calls_kinded};
+ghost use Rattle.gier_order.specs.Flat.Kinds.{Handed, Bare, Kinded, Neither, handed};
+ghost use Rattle.gier_order.specs.declared.order.Order.{Order};
+ghost use Rattle.gier_order.specs.declared.operation.Operation.TheVariants.{Call, Formal, CallF};
+ghost use Rattle.gier_exec.specs.Rows.{regs_of, code_in};
+ghost use Rattle.gier_exec.specs.Searching.{Searches, Acts};
+ghost use Rattle.gier_exec.specs.Calling.{entering, IsHead, IsCallable, formals_in};
+ghost use Rattle.gier_exec.specs.Numbers.{is_call};
 ghost use Rattle.gier_word.specs.Cause.{HasRisen};
 ghost use Rattle.gier_order.specs.Codes.{IsOrder};
 ghost use Rattle.gier_exec.specs.Registers.{Keeps, Goes};
@@ -9,7 +20,7 @@ ghost use Rattle.gier_exec.specs.declared.stop.Stop.TheVariants.{Odd};
 
 use crate::Machine;
 use crate::activations::{Entry, enter_procedure};
-use crate::frame::{MOST_COUNT, place_of, read_pair};
+use crate::frame::{MOST_COUNT, place_of, read};
 use crate::reading::{fetch, fetch_only, fetch_order};
 use crate::stop::{Miss, ODD, Stop};
 use gier_best::Trace;
@@ -39,7 +50,10 @@ pub(crate) fn call<D: Drum>(
 ) -> Result<u32, Miss>
     requires order { IsOrder order }
     requires place { m.old.place < object.now.words }
+    requires kept { IsKept frames.old }
     requires can { CanRead 3 object.now (seen D.room D.tracks D.journal D.faults drum.old places.old recent.old trace.old) }
+    ensures row { (tracks : List (List ℕ)) (input : List ℕ) → D.tracks drum.old ≡ Some tracks → Agrees (Some tracks) places.old.held → frames.old.entered ≡ true → is_call operation ≡ true
+        → Acts object.now (seen D.room D.tracks D.journal D.faults drum.old places.old recent.old trace.old) (seen D.room D.tracks D.journal D.faults drum.new places.new recent.new trace.new) (effect (code_in tracks object.now) (length frames.old.words) (regs_of m.old frames.old input) operation order.level order.address) (regs_of m.new frames.new input) result }
     ensures keeps { Keeps m.old m.new }
     ensures goes { IfOk result (λ next. Goes object.now.words m.old next m.new) }
     ensures size { length frames.new.words ≡ length frames.old.words }
@@ -47,18 +61,43 @@ pub(crate) fn call<D: Drum>(
     ensures failed { result ≡ Err DrumFailed → HasRisen (D.faults drum.old) (D.faults drum.new) }
     ensures odd { result ≡ Err (Stopped Odd) → (m.new ≡ m.old) × (frames.new ≡ frames.old) }
 {
-    let found = match operation {
-        Operation::Call => find_procedure(m, frames, object, drum, places, recent, trace, order),
-        Operation::Formal => find_formal(frames, object, drum, places, recent, trace, order),
-        _ => find_compared(m, frames, object, drum, places, recent, trace, order),
-    };
-    let entry = match found {
+    let entry = match find(
+        m, frames, object, drum, places, recent, trace, operation, order,
+    ) {
         Ok(entry) => entry,
         Err(miss) => return Err(miss),
     };
     match enter_procedure(m, frames, entry, object.words) {
         Ok(next) => Ok(next),
         Err(stop) => Err(Miss::Stop(stop)),
+    }
+}
+
+// The procedure that an order calls.
+fn find<D: Drum>(
+    m: &Machine,
+    frames: &Frames,
+    object: &Object,
+    drum: &mut D,
+    places: &mut Places,
+    recent: &mut Recent,
+    trace: &mut Trace,
+    operation: Operation,
+    order: Order,
+) -> Result<Entry, Miss>
+    requires order { IsOrder order }
+    requires can { CanRead 3 object.now (seen D.room D.tracks D.journal D.faults drum.old places.old recent.old trace.old) }
+    ensures row { (tracks : List (List ℕ)) (input : List ℕ) → D.tracks drum.old ≡ Some tracks → Agrees (Some tracks) places.old.held → frames.now.entered ≡ true → is_call operation ≡ true
+        → Searches object.now (seen D.room D.tracks D.journal D.faults drum.old places.old recent.old trace.old) (seen D.room D.tracks D.journal D.faults drum.new places.new recent.new trace.new) (effect (code_in tracks object.now) (length frames.now.words) (regs_of m.now frames.now input) operation order.level order.address) (regs_of m.now frames.now input) (entering (code_in tracks object.now) (length frames.now.words) (regs_of m.now frames.now input)) result }
+    ensures found { IfOk result (λ entry. entry.next < object.now.words) }
+    ensures callable { IfOk result IsCallable }
+    ensures reads { Reads 3 object.now (seen D.room D.tracks D.journal D.faults drum.old places.old recent.old trace.old) (seen D.room D.tracks D.journal D.faults drum.new places.new recent.new trace.new) }
+    ensures failed { result ≡ Err DrumFailed → HasRisen (D.faults drum.old) (D.faults drum.new) }
+{
+    match operation {
+        Operation::Call => find_procedure(m, frames, object, drum, places, recent, trace, order),
+        Operation::Formal => find_formal(m, frames, object, drum, places, recent, trace, order),
+        _ => find_compared(m, frames, object, drum, places, recent, trace, order),
     }
 }
 
@@ -75,7 +114,10 @@ fn find_procedure<D: Drum>(
 ) -> Result<Entry, Miss>
     requires order { IsOrder order }
     requires can { CanRead 3 object.now (seen D.room D.tracks D.journal D.faults drum.old places.old recent.old trace.old) }
+    ensures row { (tracks : List (List ℕ)) (input : List ℕ) → D.tracks drum.old ≡ Some tracks → Agrees (Some tracks) places.old.held → frames.now.entered ≡ true
+        → Searches object.now (seen D.room D.tracks D.journal D.faults drum.old places.old recent.old trace.old) (seen D.room D.tracks D.journal D.faults drum.new places.new recent.new trace.new) (effect (code_in tracks object.now) (length frames.now.words) (regs_of m.now frames.now input) Call order.level order.address) (regs_of m.now frames.now input) (entering (code_in tracks object.now) (length frames.now.words) (regs_of m.now frames.now input)) result }
     ensures found { IfOk result (λ entry. entry.next < object.now.words) }
+    ensures callable { IfOk result IsCallable }
     ensures reads { Reads 3 object.now (seen D.room D.tracks D.journal D.faults drum.old places.old recent.old trace.old) (seen D.room D.tracks D.journal D.faults drum.new places.new recent.new trace.new) }
     ensures failed { result ≡ Err DrumFailed → HasRisen (D.faults drum.old) (D.faults drum.new) }
 {
@@ -101,7 +143,9 @@ fn find_procedure<D: Drum>(
 }
 
 // Where the actuals stand; without formals there are none.
-fn actuals_from(count: u32, r: u64) -> u64 {
+fn actuals_from(count: u32, r: u64) -> u64
+    ensures { result ≡ (if nat_lt 1 count then r else 0) }
+{
     if count > NO_FORMALS { r } else { 0 }
 }
 
@@ -115,7 +159,11 @@ fn find_head<D: Drum>(
     address: u64,
 ) -> Result<Entry, Miss>
     requires can { CanRead 2 object.now (seen D.room D.tracks D.journal D.faults drum.old places.old recent.old trace.old) }
+    ensures row { (tracks : List (List ℕ)) (size : ℕ) (regs : Regs) (go : Order → ℕ → Row) (made : ℕ → ℕ → ℕ → Row) → ((head : Order) (count : ℕ) → go head count ≡ made head.level head.address count) → D.tracks drum.old ≡ Some tracks → Agrees (Some tracks) places.old.held
+        → Searches object.now (seen D.room D.tracks D.journal D.faults drum.old places.old recent.old trace.old) (seen D.room D.tracks D.journal D.faults drum.new places.new recent.new trace.new) (reads_procedure (code_in tracks object.now) size regs address go) regs (λ entry. made entry.level entry.room entry.count) result }
+    ensures head { IfOk result (λ entry. IsHead entry address) }
     ensures found { IfOk result (λ entry. entry.next < object.now.words) }
+    ensures few { IfOk result (λ entry. entry.count ≤ 511) }
     ensures reads { Reads 2 object.now (seen D.room D.tracks D.journal D.faults drum.old places.old recent.old trace.old) (seen D.room D.tracks D.journal D.faults drum.new places.new recent.new trace.new) }
     ensures failed { result ≡ Err DrumFailed → HasRisen (D.faults drum.old) (D.faults drum.new) }
 {
@@ -149,7 +197,13 @@ fn find_entry<D: Drum>(
 ) -> Result<Entry, Miss>
     requires within { address < object.now.words }
     requires can { CanRead 1 object.now (seen D.room D.tracks D.journal D.faults drum.old places.old recent.old trace.old) }
+    ensures row { (tracks : List (List ℕ)) (size : ℕ) (regs : Regs) (go : ℕ → Row) → D.tracks drum.old ≡ Some tracks → Agrees (Some tracks) places.old.held
+        → Searches object.now (seen D.room D.tracks D.journal D.faults drum.old places.old recent.old trace.old) (seen D.room D.tracks D.journal D.faults drum.new places.new recent.new trace.new) (reads_count (code_in tracks object.now) size regs address most go) regs (λ entry. go entry.count) result }
+    ensures head { IfOk result (λ entry. IsHead entry address) }
+    ensures level { IfOk result (λ entry. entry.level ≡ head.level) }
+    ensures room { IfOk result (λ entry. entry.room ≡ head.address) }
     ensures found { IfOk result (λ entry. entry.next < object.now.words) }
+    ensures few { IfOk result (λ entry. entry.count ≤ most) }
     ensures reads { Reads 1 object.now (seen D.room D.tracks D.journal D.faults drum.old places.old recent.old trace.old) (seen D.room D.tracks D.journal D.faults drum.new places.new recent.new trace.new) }
     ensures failed { result ≡ Err DrumFailed → HasRisen (D.faults drum.old) (D.faults drum.new) }
 {
@@ -173,6 +227,7 @@ fn find_entry<D: Drum>(
 
 // The formal procedure in cell, called without actuals; the alarm `parameters` where it has formals.
 fn find_formal<D: Drum>(
+    m: &Machine,
     frames: &Frames,
     object: &Object,
     drum: &mut D,
@@ -183,38 +238,71 @@ fn find_formal<D: Drum>(
 ) -> Result<Entry, Miss>
     requires order { IsOrder order }
     requires can { CanRead 3 object.now (seen D.room D.tracks D.journal D.faults drum.old places.old recent.old trace.old) }
+    ensures row { (tracks : List (List ℕ)) (input : List ℕ) → D.tracks drum.old ≡ Some tracks → Agrees (Some tracks) places.old.held → frames.now.entered ≡ true
+        → Searches object.now (seen D.room D.tracks D.journal D.faults drum.old places.old recent.old trace.old) (seen D.room D.tracks D.journal D.faults drum.new places.new recent.new trace.new) (effect (code_in tracks object.now) (length frames.now.words) (regs_of m.now frames.now input) Formal order.level order.address) (regs_of m.now frames.now input) (entering (code_in tracks object.now) (length frames.now.words) (regs_of m.now frames.now input)) result }
     ensures found { IfOk result (λ entry. entry.next < object.now.words) }
+    ensures callable { IfOk result IsCallable }
     ensures reads { Reads 3 object.now (seen D.room D.tracks D.journal D.faults drum.old places.old recent.old trace.old) (seen D.room D.tracks D.journal D.faults drum.new places.new recent.new trace.new) }
     ensures failed { result ≡ Err DrumFailed → HasRisen (D.faults drum.old) (D.faults drum.new) }
 {
-    let (address, outer) = match read_pair(frames, order.level, order.address) {
-        Ok(pair) => pair,
+    let place = match place_of(frames, order.level, order.address) {
+        Ok(place) => place,
         Err(stop) => return Err(Miss::Stop(stop)),
     };
+    let address = match read(frames, place) {
+        Ok(address) => address,
+        Err(stop) => return Err(Miss::Stop(stop)),
+    };
+    let mut entry = match find_bare(object, drum, places, recent, trace, address) {
+        Ok(entry) => entry,
+        Err(miss) => return Err(miss),
+    };
+    match read(frames, place + 1) {
+        Ok(outer) => {
+            entry.outer = outer;
+            Ok(entry)
+        }
+        Err(stop) => Err(Miss::Stop(stop)),
+    }
+}
+
+// The procedure at an address that has no formals; the alarm `parameters` where it has some.
+fn find_bare<D: Drum>(
+    object: &Object,
+    drum: &mut D,
+    places: &mut Places,
+    recent: &mut Recent,
+    trace: &mut Trace,
+    address: u64,
+) -> Result<Entry, Miss>
+    requires can { CanRead 2 object.now (seen D.room D.tracks D.journal D.faults drum.old places.old recent.old trace.old) }
+    ensures row { (tracks : List (List ℕ)) (size : ℕ) (regs : Regs) (place : ℕ) → D.tracks drum.old ≡ Some tracks → Agrees (Some tracks) places.old.held
+        → Searches object.now (seen D.room D.tracks D.journal D.faults drum.old places.old recent.old trace.old) (seen D.room D.tracks D.journal D.faults drum.new places.new recent.new trace.new) (reads_order (code_in tracks object.now) size regs address (λ head. calls_bare (code_in tracks object.now) size regs address place head (handed head))) regs (λ entry. word_at (code_in tracks object.now) size regs place (λ outer. entering (code_in tracks object.now) size regs (record entry { outer = outer }))) result }
+    ensures from { IfOk result (λ entry. entry.from ≡ 0) }
+    ensures found { IfOk result (λ entry. entry.next < object.now.words) }
+    ensures few { IfOk result (λ entry. entry.count ≤ 511) }
+    ensures reads { Reads 2 object.now (seen D.room D.tracks D.journal D.faults drum.old places.old recent.old trace.old) (seen D.room D.tracks D.journal D.faults drum.new places.new recent.new trace.new) }
+    ensures failed { result ≡ Err DrumFailed → HasRisen (D.faults drum.old) (D.faults drum.new) }
+{
     let head = match fetch_order(object, drum, places, recent, trace, address) {
         Ok(head) => head,
         Err(miss) => return Err(miss),
     };
     match formals_of(head) {
-        Ok(None) => {}
-        Ok(Some(_)) => return Err(Miss::Stop(Stop::Alarm(Alarm::Parameters))),
-        Err(stop) => return Err(Miss::Stop(stop)),
-    }
-    match find_entry(
-        object, drum, places, recent, trace, head, address, NO_FORMALS,
-    ) {
-        Ok(mut entry) => {
-            entry.outer = outer;
-            Ok(entry)
-        }
-        Err(miss) => Err(miss),
+        Ok(None) => find_entry(
+            object, drum, places, recent, trace, head, address, NO_FORMALS,
+        ),
+        Ok(Some(_)) => Err(Miss::Stop(Stop::Alarm(Alarm::Parameters))),
+        Err(stop) => Err(Miss::Stop(stop)),
     }
 }
 
 /// How many formals a procedure has that is handed over; PROC tells none, and KINDS from 1 to 80. Odd elsewhere.
 pub(crate) fn formals_of(head: Order) -> Result<Option<u8>, Stop>
+    ensures value { result ≡ formals_in (handed head) }
     ensures few { IfOk result (λ found. IfSome found (λ n. n ≤ 80)) }
     ensures level { IfOk result (λ found. IfSome found (λ n. n ≡ head.level)) }
+    ensures some { IfOk result (λ found. IfSome found (λ n. 1 ≤ n)) }
 {
     if head.op == Operation::Proc.number() {
         return Ok(None);
@@ -235,7 +323,10 @@ pub(crate) fn fetch_kinds<D: Drum>(
     address: u64,
 ) -> Result<Order, Miss>
     requires can { CanRead 1 object.now (seen D.room D.tracks D.journal D.faults drum.old places.old recent.old trace.old) }
+    ensures row { (tracks : List (List ℕ)) (size : ℕ) (regs : Regs) (go : Order → Handed → Row) → ((head : Order) → go head Bare ≡ odd) → ((head : Order) → go head Neither ≡ odd) → D.tracks drum.old ≡ Some tracks → Agrees (Some tracks) places.old.held
+        → Searches object.now (seen D.room D.tracks D.journal D.faults drum.old places.old recent.old trace.old) (seen D.room D.tracks D.journal D.faults drum.new places.new recent.new trace.new) (reads_order (code_in tracks object.now) size regs address (λ head. go head (handed head))) regs (λ kinds. go kinds (Kinded kinds.level)) result }
     ensures order { IfOk result IsOrder }
+    ensures some { IfOk result (λ order. 1 ≤ order.level) }
     ensures few { IfOk result (λ order. order.level ≤ 80) }
     ensures reads { Reads 1 object.now (seen D.room D.tracks D.journal D.faults drum.old places.old recent.old trace.old) (seen D.room D.tracks D.journal D.faults drum.new places.new recent.new trace.new) }
     ensures failed { result ≡ Err DrumFailed → HasRisen (D.faults drum.old) (D.faults drum.new) }
@@ -264,19 +355,58 @@ fn find_compared<D: Drum>(
 ) -> Result<Entry, Miss>
     requires order { IsOrder order }
     requires can { CanRead 3 object.now (seen D.room D.tracks D.journal D.faults drum.old places.old recent.old trace.old) }
+    ensures row { (tracks : List (List ℕ)) (input : List ℕ) → D.tracks drum.old ≡ Some tracks → Agrees (Some tracks) places.old.held → frames.now.entered ≡ true
+        → Searches object.now (seen D.room D.tracks D.journal D.faults drum.old places.old recent.old trace.old) (seen D.room D.tracks D.journal D.faults drum.new places.new recent.new trace.new) (effect (code_in tracks object.now) (length frames.now.words) (regs_of m.now frames.now input) CallF order.level order.address) (regs_of m.now frames.now input) (entering (code_in tracks object.now) (length frames.now.words) (regs_of m.now frames.now input)) result }
     ensures found { IfOk result (λ entry. entry.next < object.now.words) }
+    ensures callable { IfOk result IsCallable }
     ensures reads { Reads 3 object.now (seen D.room D.tracks D.journal D.faults drum.old places.old recent.old trace.old) (seen D.room D.tracks D.journal D.faults drum.new places.new recent.new trace.new) }
     ensures failed { result ≡ Err DrumFailed → HasRisen (D.faults drum.old) (D.faults drum.new) }
 {
-    let (address, outer) = match read_pair(frames, order.level, order.address) {
-        Ok(pair) => pair,
+    let place = match place_of(frames, order.level, order.address) {
+        Ok(place) => place,
         Err(stop) => return Err(Miss::Stop(stop)),
     };
+    let address = match read(frames, place) {
+        Ok(address) => address,
+        Err(stop) => return Err(Miss::Stop(stop)),
+    };
+    let mut entry = match find_kinded(object, drum, places, recent, trace, address) {
+        Ok(entry) => entry,
+        Err(miss) => return Err(miss),
+    };
+    match read(frames, place + 1) {
+        Ok(outer) => {
+            entry.outer = outer;
+            entry.from = m.r();
+            Ok(entry)
+        }
+        Err(stop) => Err(Miss::Stop(stop)),
+    }
+}
+
+// The procedure that the KINDS at an address tells, with as many formals as it says.
+fn find_kinded<D: Drum>(
+    object: &Object,
+    drum: &mut D,
+    places: &mut Places,
+    recent: &mut Recent,
+    trace: &mut Trace,
+    address: u64,
+) -> Result<Entry, Miss>
+    requires can { CanRead 3 object.now (seen D.room D.tracks D.journal D.faults drum.old places.old recent.old trace.old) }
+    ensures row { (tracks : List (List ℕ)) (size : ℕ) (regs : Regs) (place : ℕ) → D.tracks drum.old ≡ Some tracks → Agrees (Some tracks) places.old.held
+        → Searches object.now (seen D.room D.tracks D.journal D.faults drum.old places.old recent.old trace.old) (seen D.room D.tracks D.journal D.faults drum.new places.new recent.new trace.new) (reads_order (code_in tracks object.now) size regs address (λ kinds. calls_kinded (code_in tracks object.now) size regs place kinds (handed kinds))) regs (λ entry. word_at (code_in tracks object.now) size regs place (λ outer. entering (code_in tracks object.now) size regs (record entry { outer = outer; from = regs.r }))) result }
+    ensures found { IfOk result (λ entry. entry.next < object.now.words) }
+    ensures few { IfOk result (λ entry. entry.count ≤ 511) }
+    ensures some { IfOk result (λ entry. 2 ≤ entry.count) }
+    ensures reads { Reads 3 object.now (seen D.room D.tracks D.journal D.faults drum.old places.old recent.old trace.old) (seen D.room D.tracks D.journal D.faults drum.new places.new recent.new trace.new) }
+    ensures failed { result ≡ Err DrumFailed → HasRisen (D.faults drum.old) (D.faults drum.new) }
+{
     let kinds = match fetch_kinds(object, drum, places, recent, trace, address) {
         Ok(kinds) => kinds,
         Err(miss) => return Err(miss),
     };
-    let mut entry = match find_head(
+    let entry = match find_head(
         object,
         drum,
         places,
@@ -287,10 +417,9 @@ fn find_compared<D: Drum>(
         Ok(entry) => entry,
         Err(miss) => return Err(miss),
     };
-    if entry.count / 2 != u32::from(kinds.level) {
-        return Err(ODD);
+    if entry.count / 2 == u32::from(kinds.level) {
+        Ok(entry)
+    } else {
+        Err(ODD)
     }
-    entry.outer = outer;
-    entry.from = m.r();
-    Ok(entry)
 }

@@ -1,5 +1,17 @@
 // Evaluations of formals by name and of switch elements, which are found by the words of the object and then entered.
-ghost use Rattle.std.specs.Prelude.{◌≡◌, ◌+◌, ◌<◌, ◌≤◌, ◌^◌, IfOk, IfSome, length, Err};
+ghost use Rattle.std.specs.Prelude.{◌≡◌, ◌≢◌, ◌+◌, ◌<◌, ◌≤◌, ◌^◌, ℕ, true, List, None, Some, IfOk, IfSome, length, Ok, Err};
+ghost use Rattle.gier_frames.specs.State.{State, IsKept};
+ghost use Rattle.gier_places.specs.Contents.{Agrees};
+ghost use Rattle.gier_names.specs.declared.wanted.Wanted.TheVariants.{Label};
+ghost use Rattle.gier_names.specs.Evaluations.{number_of as wanted_number};
+ghost use Rattle.gier_order.specs.Flat.Row.{Regs, reads as reads_word};
+ghost use Rattle.gier_order.specs.Flat.Rows.{effect, cell_pair, evaluates, switches};
+ghost use Rattle.gier_exec.specs.Registers.{Registers};
+ghost use Rattle.gier_exec.specs.Rows.{regs_of, code_in};
+ghost use Rattle.gier_exec.specs.Numbers.{is_evaluation, is_choice};
+ghost use Rattle.gier_exec.specs.Following.{Comes, Gets};
+ghost use Rattle.gier_exec.specs.Searching.{Searches, Acts};
+ghost use Rattle.gier_exec.specs.Beginning.{beginning, choosing};
 ghost use Rattle.gier_word.specs.Cause.{HasRisen};
 ghost use Rattle.gier_order.specs.Codes.{IsOrder};
 ghost use Rattle.gier_exec.specs.Registers.{Keeps, Goes};
@@ -39,6 +51,9 @@ pub(crate) fn evaluate<D: Drum>(
     requires order { IsOrder order }
     requires place { m.old.place < object.now.words }
     requires can { CanRead 1 object.now (seen D.room D.tracks D.journal D.faults drum.old places.old recent.old trace.old) }
+    requires kept { IsKept frames.old }
+    ensures row { (tracks : List (List ℕ)) (input : List ℕ) → D.tracks drum.old ≡ Some tracks → Agrees (Some tracks) places.old.held → frames.old.entered ≡ true → is_evaluation operation ≡ true
+        → Acts object.now (seen D.room D.tracks D.journal D.faults drum.old places.old recent.old trace.old) (seen D.room D.tracks D.journal D.faults drum.new places.new recent.new trace.new) (effect (code_in tracks object.now) (length frames.old.words) (regs_of m.old frames.old input) operation order.level order.address) (regs_of m.new frames.new input) result }
     ensures keeps { Keeps m.old m.new }
     ensures goes { IfOk result (λ next. Goes object.now.words m.old next m.new) }
     ensures size { length frames.new.words ≡ length frames.old.words }
@@ -73,6 +88,9 @@ pub(crate) fn choose<D: Drum>(
     requires order { IsOrder order }
     requires place { m.old.place < object.now.words }
     requires can { CanRead 3 object.now (seen D.room D.tracks D.journal D.faults drum.old places.old recent.old trace.old) }
+    requires kept { IsKept frames.old }
+    ensures row { (tracks : List (List ℕ)) (input : List ℕ) → D.tracks drum.old ≡ Some tracks → Agrees (Some tracks) places.old.held → frames.old.entered ≡ true → is_choice operation ≡ true
+        → Acts object.now (seen D.room D.tracks D.journal D.faults drum.old places.old recent.old trace.old) (seen D.room D.tracks D.journal D.faults drum.new places.new recent.new trace.new) (effect (code_in tracks object.now) (length frames.old.words) (regs_of m.old frames.old input) operation order.level order.address) (regs_of m.new frames.new input) result }
     ensures keeps { Keeps m.old m.new }
     ensures goes { IfOk result (λ next. Goes object.now.words m.old next m.new) }
     ensures size { length frames.new.words ≡ length frames.old.words }
@@ -86,18 +104,37 @@ pub(crate) fn choose<D: Drum>(
         Ok(found) => found,
         Err(miss) => return Err(miss),
     };
-    let next = match found {
-        Some(found) => enter_evaluation(m, frames, found, object.words),
-        None => choose_none(m, object.words),
-    };
-    match next {
+    match enter_chosen(m, frames, found, object.words) {
         Ok(next) => Ok(next),
         Err(stop) => Err(Miss::Stop(stop)),
     }
 }
 
+// Enters the evaluation of an element, where there is one.
+fn enter_chosen(
+    m: &mut Machine,
+    frames: &mut Frames,
+    chosen: Option<Evaluation>,
+    words: u32,
+) -> Result<u32, Stop>
+    requires found { IfSome chosen (λ found. IsFound words found) }
+    requires place { m.old.place < words }
+    requires kept { IsKept frames.old }
+    ensures row { (code input : List ℕ) → frames.old.entered ≡ true → length code ≡ words → Comes (choosing code (length frames.old.words) (regs_of m.old frames.old input) chosen) (regs_of m.new frames.new input) result }
+    ensures keeps { Keeps m.old m.new }
+    ensures goes { IfOk result (λ at. Goes words m.old at m.new) }
+    ensures size { length frames.new.words ≡ length frames.old.words }
+    ensures odd { result ≡ Err Odd → (m.new ≡ m.old) × (frames.new ≡ frames.old) }
+{
+    match chosen {
+        Some(found) => enter_evaluation(m, frames, found, words),
+        None => choose_none(m, words),
+    }
+}
+
 // The subscript names no element.
 fn choose_none(m: &mut Machine, words: u32) -> Result<u32, Stop>
+    ensures row { (code input : List ℕ) (s : State) → length code ≡ words → Comes (choosing code (length s.words) (regs_of m.old s input) None) (regs_of m.new s input) result }
     ensures keeps { Keeps m.old m.new }
     ensures goes { IfOk result (λ next. Goes words m.old next m.new) }
     ensures odd { result ≡ Err Odd → m.new ≡ m.old }
@@ -125,35 +162,51 @@ fn find_formal<D: Drum>(
 ) -> Result<Evaluation, Miss>
     requires order { IsOrder order }
     requires can { CanRead 1 object.now (seen D.room D.tracks D.journal D.faults drum.old places.old recent.old trace.old) }
+    ensures row { (tracks : List (List ℕ)) (m : Registers) (input : List ℕ) → D.tracks drum.old ≡ Some tracks → Agrees (Some tracks) places.old.held → frames.now.entered ≡ true → is_evaluation operation ≡ true
+        → Searches object.now (seen D.room D.tracks D.journal D.faults drum.old places.old recent.old trace.old) (seen D.room D.tracks D.journal D.faults drum.new places.new recent.new trace.new) (effect (code_in tracks object.now) (length frames.now.words) (regs_of m frames.now input) operation order.level order.address) (regs_of m frames.now input) (λ found. beginning (code_in tracks object.now) (length frames.now.words) (regs_of m frames.now input) found) result }
     ensures found { IfOk result (λ found. IsFound object.now.words found) }
     ensures reads { Reads 1 object.now (seen D.room D.tracks D.journal D.faults drum.old places.old recent.old trace.old) (seen D.room D.tracks D.journal D.faults drum.new places.new recent.new trace.new) }
     ensures failed { result ≡ Err DrumFailed → HasRisen (D.faults drum.old) (D.faults drum.new) }
 {
-    let (address, outer) = match read_pair(frames, order.level, order.address) {
-        Ok(pair) => pair,
-        Err(stop) => return Err(Miss::Stop(stop)),
-    };
     let wanted = match wanted_by(frames, operation) {
         Ok(wanted) => wanted,
+        Err(stop) => return Err(Miss::Stop(stop)),
+    };
+    let (address, outer) = match read_pair(frames, order.level, order.address) {
+        Ok(pair) => pair,
         Err(stop) => return Err(Miss::Stop(stop)),
     };
     find_thunk(object, drum, places, recent, trace, address, outer, wanted)
 }
 
 // What an order wants of the evaluation in cell; PASS wants what the current activation wants, and no label.
-fn wanted_by(frames: &Frames, operation: Operation) -> Result<Wanted, Stop> {
+fn wanted_by(frames: &Frames, operation: Operation) -> Result<Wanted, Stop>
+    ensures row { (code input : List ℕ) (m : Registers) (l a : ℕ) → frames.now.entered ≡ true → is_evaluation operation ≡ true
+        → Gets (effect code (length frames.now.words) (regs_of m frames.now input) operation l a) (λ wanted. cell_pair code (length frames.now.words) (regs_of m frames.now input) l a (λ k outer. evaluates code (length frames.now.words) (regs_of m frames.now input) k outer (wanted_number wanted))) result }
+{
     match operation {
         Operation::Value => Ok(Wanted::Value),
         Operation::Place => Ok(Wanted::Address),
         Operation::NameL => Ok(Wanted::Label),
         _ => match wanted_now(frames) {
-            Ok(Wanted::Label) => Err(Stop::Odd),
-            wanted => wanted,
+            Ok(wanted) => unless_label(wanted),
+            Err(stop) => Err(stop),
         },
     }
 }
 
+fn unless_label(wanted: Wanted) -> Result<Wanted, Stop>
+    ensures label { wanted ≡ Label → result ≡ Err Odd }
+    ensures other { wanted ≢ Label → result ≡ Ok wanted }
+{
+    match wanted {
+        Wanted::Label => Err(Stop::Odd),
+        _ => Ok(wanted),
+    }
+}
+
 // The evaluation whose THUNK stands at an address.
+#[tactic(auto, using(crate::proofs::Evaluatings::thunk_is))]
 fn find_thunk<D: Drum>(
     object: &Object,
     drum: &mut D,
@@ -165,6 +218,8 @@ fn find_thunk<D: Drum>(
     wanted: Wanted,
 ) -> Result<Evaluation, Miss>
     requires can { CanRead 1 object.now (seen D.room D.tracks D.journal D.faults drum.old places.old recent.old trace.old) }
+    ensures row { (tracks : List (List ℕ)) (size : ℕ) (regs : Regs) → D.tracks drum.old ≡ Some tracks → Agrees (Some tracks) places.old.held
+        → Searches object.now (seen D.room D.tracks D.journal D.faults drum.old places.old recent.old trace.old) (seen D.room D.tracks D.journal D.faults drum.new places.new recent.new trace.new) (evaluates (code_in tracks object.now) size regs address outer (wanted_number wanted)) regs (λ found. beginning (code_in tracks object.now) size regs found) result }
     ensures found { IfOk result (λ found. IsFound object.now.words found) }
     ensures reads { Reads 1 object.now (seen D.room D.tracks D.journal D.faults drum.old places.old recent.old trace.old) (seen D.room D.tracks D.journal D.faults drum.new places.new recent.new trace.new) }
     ensures failed { result ≡ Err DrumFailed → HasRisen (D.faults drum.old) (D.faults drum.new) }
@@ -207,6 +262,8 @@ fn find_element<D: Drum>(
 ) -> Result<Option<Evaluation>, Miss>
     requires order { IsOrder order }
     requires can { CanRead 3 object.now (seen D.room D.tracks D.journal D.faults drum.old places.old recent.old trace.old) }
+    ensures row { (tracks : List (List ℕ)) (input : List ℕ) → D.tracks drum.old ≡ Some tracks → Agrees (Some tracks) places.old.held → frames.now.entered ≡ true → is_choice operation ≡ true
+        → Searches object.now (seen D.room D.tracks D.journal D.faults drum.old places.old recent.old trace.old) (seen D.room D.tracks D.journal D.faults drum.new places.new recent.new trace.new) (effect (code_in tracks object.now) (length frames.now.words) (regs_of m.now frames.now input) operation order.level order.address) (regs_of m.now frames.now input) (λ chosen. choosing (code_in tracks object.now) (length frames.now.words) (regs_of m.now frames.now input) chosen) result }
     ensures found { IfOk result (λ chosen. IfSome chosen (λ found. IsFound object.now.words found)) }
     ensures reads { Reads 3 object.now (seen D.room D.tracks D.journal D.faults drum.old places.old recent.old trace.old) (seen D.room D.tracks D.journal D.faults drum.new places.new recent.new trace.new) }
     ensures failed { result ≡ Err DrumFailed → HasRisen (D.faults drum.old) (D.faults drum.new) }
@@ -231,14 +288,16 @@ fn find_element<D: Drum>(
 // The address of a switch's table, and the base of the activation that encloses its elements.
 fn find_table(frames: &Frames, operation: Operation, order: Order) -> Result<(u64, u64), Stop>
     requires { IsOrder order }
-    ensures { IfOk result (λ pair. pair.0 < 2 ^ 40) }
+    ensures row { (code input : List ℕ) (m : Registers) → frames.now.entered ≡ true → is_choice operation ≡ true
+        → Gets (effect code (length frames.now.words) (regs_of m frames.now input) operation order.level order.address) (λ pair. switches code (length frames.now.words) (regs_of m frames.now input) pair.0 pair.1) result }
+    ensures small { IfOk result (λ pair. pair.0 < 2 ^ 40) }
 {
-    if operation == Operation::SwForm {
-        return read_pair(frames, order.level, order.address);
-    }
-    match place_of(frames, order.level, 0) {
-        Ok(outer) => Ok((u64::from(order.address), outer)),
-        Err(stop) => Err(stop),
+    match operation {
+        Operation::SwForm => read_pair(frames, order.level, order.address),
+        _ => match place_of(frames, order.level, 0) {
+            Ok(outer) => Ok((u64::from(order.address), outer)),
+            Err(stop) => Err(stop),
+        },
     }
 }
 
@@ -253,6 +312,8 @@ fn find_label<D: Drum>(
     outer: u64,
 ) -> Result<Evaluation, Miss>
     requires can { CanRead 2 object.now (seen D.room D.tracks D.journal D.faults drum.old places.old recent.old trace.old) }
+    ensures row { (tracks : List (List ℕ)) (size : ℕ) (regs : Regs) → D.tracks drum.old ≡ Some tracks → Agrees (Some tracks) places.old.held
+        → Searches object.now (seen D.room D.tracks D.journal D.faults drum.old places.old recent.old trace.old) (seen D.room D.tracks D.journal D.faults drum.new places.new recent.new trace.new) (reads_word (code_in tracks object.now) entry (λ address. evaluates (code_in tracks object.now) size regs address outer 3)) regs (λ found. beginning (code_in tracks object.now) size regs found) result }
     ensures found { IfOk result (λ found. IsFound object.now.words found) }
     ensures reads { Reads 2 object.now (seen D.room D.tracks D.journal D.faults drum.old places.old recent.old trace.old) (seen D.room D.tracks D.journal D.faults drum.new places.new recent.new trace.new) }
     ensures failed { result ≡ Err DrumFailed → HasRisen (D.faults drum.old) (D.faults drum.new) }

@@ -1,16 +1,20 @@
 // Which part of the machine carries out an order.
-ghost use Rattle.std.specs.Prelude.{◌≡◌, ◌≢◌, ◌+◌, ◌*◌, ◌<◌, ◌≤◌, ◌^◌, ◌||◌, ℕ, true, List, [], Some, IfOk, IsTrue, length, Err};
+ghost use Rattle.std.specs.Prelude.{◌≡◌, ◌≢◌, ◌+◌, ◌*◌, ◌<◌, ◌≤◌, ◌^◌, ◌||◌, ◌++◌, ℕ, true, List, [], Some, IfOk, IsTrue, length, Err};
 ghost use Rattle.gier_frames.specs.State.{State, IsKept};
 ghost use Rattle.gier_places.specs.Contents.{Agrees};
 ghost use Rattle.gier_order.specs.Table.{operation_at};
-ghost use Rattle.gier_order.specs.declared.operation.Operation.TheVariants.{Long};
+ghost use Rattle.gier_order.specs.declared.operation.Operation.TheVariants.{Long, Lib};
+ghost use Rattle.gier_order.specs.Flat.Row.{needs};
 ghost use Rattle.gier_order.specs.Flat.Rows.{effect, does};
 ghost use Rattle.gier_exec.specs.Rows.{regs_of, code_in};
 ghost use Rattle.gier_exec.specs.Following.{Comes};
-ghost use Rattle.gier_exec.specs.References.{Refers, Does, DoesOrQuits, IsSettled};
-ghost use Rattle.gier_exec.specs.Numbers.{is_jump, is_plain, is_start, is_settled};
+ghost use Rattle.gier_exec.specs.References.{Refers, Does};
+ghost use Rattle.gier_exec.specs.Turning.{IsRest, Obeys};
+ghost use Rattle.gier_io.specs.Device.{Puts};
+ghost use Rattle.gier_library.specs.Data.{Takes};
+ghost use Rattle.gier_exec.specs.Numbers.{is_jump, is_plain, is_start};
 ghost use Rattle.gier_word.specs.Cause.{HasRisen};
-ghost use Rattle.gier_library.specs.Seen.{source_of};
+ghost use Rattle.gier_library.specs.Seen.{source_of, ended, stand_of};
 ghost use Rattle.gier_order.specs.Codes.{IsOrder};
 ghost use Rattle.gier_exec.specs.Registers.{Keeps, Goes};
 ghost use Rattle.gier_exec.specs.Reading.{CanRead, Reads, seen};
@@ -37,6 +41,7 @@ use gier_order::{Object, Operation, Order, Recent};
 use gier_places::Places;
 
 /// Carries out an order, and gives the address of the next one.
+#[inline(always)]
 pub(crate) fn execute<D: Drum, S: Source, K: Sink>(
     m: &mut Machine,
     frames: &mut Frames,
@@ -52,8 +57,10 @@ pub(crate) fn execute<D: Drum, S: Source, K: Sink>(
     requires order { IsOrder order }
     requires place { m.old.place < object.now.words }
     requires can { CanRead (2 * object.now.words + 1) object.now (seen D.room D.tracks D.journal D.faults drum.old places.old recent.old trace.old) }
-    ensures row { (tracks : List (List ℕ)) (input : List ℕ) → D.tracks drum.old ≡ Some tracks → Agrees (Some tracks) places.old.held → IsSettled (operation_at order.op)
-        → (refs : List ℕ) × Refers object.now refs (seen D.room D.tracks D.journal D.faults drum.old places.old recent.old trace.old) (seen D.room D.tracks D.journal D.faults drum.new places.new recent.new trace.new) × DoesOrQuits (does (code_in tracks object.now) (length frames.old.words) (regs_of m.old frames.old input) order (operation_at order.op)) refs (regs_of m.new frames.new input) result }
+    ensures row { (tracks : List (List ℕ)) → D.tracks drum.old ≡ Some tracks → Agrees (Some tracks) places.old.held
+        → (read put taken : List ℕ) × Refers object.now read (seen D.room D.tracks D.journal D.faults drum.old places.old recent.old trace.old) (seen D.room D.tracks D.journal D.faults drum.new places.new recent.new trace.new)
+        × Puts (K.holds out.old) put (K.holds out.new) × Takes (stand_of S.left input.old) taken (stand_of S.left input.new)
+        × ((rest : List ℕ) → IsRest (ended input.new) rest → Obeys (does (code_in tracks object.now) (length frames.old.words) (regs_of m.old frames.old (taken ++ rest)) order (operation_at order.op)) (regs_of m.old frames.old (taken ++ rest)) (regs_of m.new frames.new rest) read put taken result) }
     ensures keeps { Keeps m.old m.new }
     ensures goes { IfOk result (λ next. Goes object.now.words m.old next m.new) }
     ensures size { length frames.new.words ≡ length frames.old.words }
@@ -67,19 +74,22 @@ pub(crate) fn execute<D: Drum, S: Source, K: Sink>(
     ensures spoilt { result ≡ Err (Missed (Stopped Odd)) → (m.new ≡ m.old) × ((frames.new ≡ frames.old) × ((out.new ≡ out.old) × (input.new ≡ input.old))) }
 {
     let operation = order.operation();
-    if operation == Operation::Lib {
-        return procedure(
-            m,
-            frames,
-            object,
-            drum,
-            places,
-            recent,
-            trace,
-            input,
-            out,
-            order.address,
-        );
+    match operation {
+        Operation::Lib => {
+            return procedure(
+                m,
+                frames,
+                object,
+                drum,
+                places,
+                recent,
+                trace,
+                input,
+                out,
+                order.address,
+            );
+        }
+        _ => {}
     }
     if is_allowed(frames, operation) {
         return match dispatch(
@@ -93,11 +103,19 @@ pub(crate) fn execute<D: Drum, S: Source, K: Sink>(
 }
 
 // Whether there is an activation, or the order begins the first one.
+#[inline(always)]
 fn is_allowed(frames: &Frames, operation: Operation) -> bool
     ensures value { result ≡ (frames.now.entered || is_start operation) }
     ensures kept { IsKept frames.now }
 {
-    frames.here(0).is_ok() || operation == Operation::Start
+    is_entered(frames) || operation == Operation::Start
+}
+
+fn is_entered(frames: &Frames) -> bool
+    ensures value { result ≡ frames.now.entered }
+    ensures kept { IsKept frames.now }
+{
+    frames.here(0).is_ok()
 }
 
 // LIB.
@@ -116,6 +134,10 @@ fn procedure<D: Drum, S: Source, K: Sink>(
 ) -> Result<u32, Quit>
     requires place { m.old.place < object.now.words }
     requires can { CanRead (object.now.words + 1) object.now (seen D.room D.tracks D.journal D.faults drum.old places.old recent.old trace.old) }
+    ensures row { (tracks : List (List ℕ)) → D.tracks drum.old ≡ Some tracks → Agrees (Some tracks) places.old.held
+        → (read put taken : List ℕ) × Refers object.now read (seen D.room D.tracks D.journal D.faults drum.old places.old recent.old trace.old) (seen D.room D.tracks D.journal D.faults drum.new places.new recent.new trace.new)
+        × Puts (K.holds out.old) put (K.holds out.new) × Takes (stand_of S.left input.old) taken (stand_of S.left input.new)
+        × ((rest : List ℕ) (l : ℕ) → IsRest (ended input.new) rest → Obeys (needs frames.now.entered (effect (code_in tracks object.now) (length frames.now.words) (regs_of m.old frames.now (taken ++ rest)) Lib l number)) (regs_of m.old frames.now (taken ++ rest)) (regs_of m.new frames.now rest) read put taken result) }
     ensures keeps { Keeps m.old m.new }
     ensures goes { IfOk result (λ next. Goes object.now.words m.old next m.new) }
     ensures reads { Reads (object.now.words + 1) object.now (seen D.room D.tracks D.journal D.faults drum.old places.old recent.old trace.old) (seen D.room D.tracks D.journal D.faults drum.new places.new recent.new trace.new) }
@@ -127,16 +149,20 @@ fn procedure<D: Drum, S: Source, K: Sink>(
     ensures failed { result ≡ Err (Missed DrumFailed) → HasRisen (D.faults drum.old) (D.faults drum.new) }
     ensures odd { result ≡ Err (Missed (Stopped Odd)) → (m.new ≡ m.old) × ((out.new ≡ out.old) × (input.new ≡ input.old)) }
 {
-    if frames.here(0).is_err() || m.behind() >= u64::from(object.words) {
+    if m.behind() >= u64::from(object.words) {
         return Err(Quit::Miss(ODD));
     }
-    match library(m, object, drum, places, recent, trace, input, out, number) {
-        Ok(()) => Ok(m.place() + 1),
-        Err(quit) => Err(quit),
+    if is_entered(frames) {
+        return match library(m, object, drum, places, recent, trace, input, out, number) {
+            Ok(()) => Ok(m.place() + 1),
+            Err(quit) => Err(quit),
+        };
     }
+    Err(Quit::Miss(ODD))
 }
 
 // The orders other than LIB.
+#[inline(always)]
 fn dispatch<D: Drum>(
     m: &mut Machine,
     frames: &mut Frames,
@@ -151,8 +177,9 @@ fn dispatch<D: Drum>(
     requires order { IsOrder order }
     requires place { m.old.place < object.now.words }
     requires can { CanRead (2 * object.now.words + 1) object.now (seen D.room D.tracks D.journal D.faults drum.old places.old recent.old trace.old) }
+    requires other { operation ≢ Lib }
     requires kept { IsKept frames.old }
-    ensures row { (tracks : List (List ℕ)) (input : List ℕ) → D.tracks drum.old ≡ Some tracks → Agrees (Some tracks) places.old.held → IsTrue (frames.old.entered || is_start operation) → is_settled operation ≡ true
+    ensures row { (tracks : List (List ℕ)) (input : List ℕ) → D.tracks drum.old ≡ Some tracks → Agrees (Some tracks) places.old.held → IsTrue (frames.old.entered || is_start operation)
         → (refs : List ℕ) × Refers object.now refs (seen D.room D.tracks D.journal D.faults drum.old places.old recent.old trace.old) (seen D.room D.tracks D.journal D.faults drum.new places.new recent.new trace.new) × Does (effect (code_in tracks object.now) (length frames.old.words) (regs_of m.old frames.old input) operation order.level order.address) refs (regs_of m.new frames.new input) result }
     ensures keeps { Keeps m.old m.new }
     ensures goes { IfOk result (λ next. Goes object.now.words m.old next m.new) }
@@ -194,6 +221,7 @@ fn dispatch<D: Drum>(
 }
 
 // The orders that read nothing of the object and may choose the place of the next one.
+#[inline(always)]
 fn move_on(
     m: &mut Machine,
     frames: &mut Frames,
@@ -214,6 +242,7 @@ fn move_on(
     }
 }
 
+#[inline(always)]
 fn choose_next(
     m: &mut Machine,
     frames: &mut Frames,
@@ -239,6 +268,7 @@ fn choose_next(
 }
 
 // The orders that read nothing of the object and go on with the next one.
+#[inline(always)]
 #[tactic(auto, using(crate::proofs::Falling::lighter_falls))]
 fn go_on(
     m: &mut Machine,

@@ -6,17 +6,18 @@ ghost use Rattle.gier_order.specs.Flat.Row.{Row};
 ghost use Rattle.gier_order.specs.Flat.Rows.{word_at, local as local_row, in_level, cell_pair};
 ghost use Rattle.gier_exec.specs.Registers.{Registers};
 ghost use Rattle.gier_exec.specs.Rows.{regs_of};
-ghost use Rattle.gier_exec.specs.Following.{Gets};
+ghost use Rattle.gier_exec.specs.Following.{Gets, word_of};
 ghost use Rattle.gier_exec.specs.declared.stop.Stop.TheVariants.{Odd};
 
 use crate::stop::Stop;
 use gier_frames::{Frames, Halt};
 
 /// The word at an address of the current activation.
-#[inline]
+#[inline(always)]
 #[tactic(auto, using(crate::proofs::Founds::here_refused))]
 pub(crate) fn local(frames: &Frames, address: u32) -> Result<u64, Stop>
     ensures small { IfOk result (λ word. word < 2 ^ 40) }
+    ensures found { frames.now.entered ≡ true → result ≡ word_of frames.now (frames.now.base + address) }
     ensures row { (code input : List ℕ) (m : Registers) (go : ℕ → Row) → frames.now.entered ≡ true → Gets (local_row code (length frames.now.words) (regs_of m frames.now input) address go) go result }
 {
     match frames.here(address) {
@@ -26,10 +27,11 @@ pub(crate) fn local(frames: &Frames, address: u32) -> Result<u64, Stop>
 }
 
 /// The word at a place.
-#[inline]
+#[inline(always)]
 #[tactic(auto, using(crate::proofs::Founds::word_refused))]
 pub(crate) fn read(frames: &Frames, place: u64) -> Result<u64, Stop>
     ensures small { IfOk result (λ word. word < 2 ^ 40) }
+    ensures found { frames.now.entered ≡ true → result ≡ word_of frames.now place }
     ensures row { (code input : List ℕ) (m : Registers) (go : ℕ → Row) → frames.now.entered ≡ true → Gets (word_at code (length frames.now.words) (regs_of m frames.now input) place go) go result }
 {
     match frames.get(place) {
@@ -39,7 +41,7 @@ pub(crate) fn read(frames: &Frames, place: u64) -> Result<u64, Stop>
 }
 
 /// The place at an address in the visible activation of a level.
-#[inline]
+#[inline(always)]
 #[tactic(auto, using(crate::proofs::Founds::cell_found, crate::proofs::Founds::cell_refused, crate::proofs::Founds::cell_small))]
 pub(crate) fn place_of(frames: &Frames, level: u8, address: u32) -> Result<u64, Stop>
     ensures small { IfOk result (λ place. place < 2 ^ 40) }
@@ -52,7 +54,7 @@ pub(crate) fn place_of(frames: &Frames, level: u8, address: u32) -> Result<u64, 
 }
 
 /// The place at an address in the current activation.
-#[inline]
+#[inline(always)]
 #[tactic(auto, using(crate::proofs::Founds::here_refused, crate::proofs::Founds::here_small))]
 pub(crate) fn here(frames: &Frames, address: u32) -> Result<u64, Stop>
     ensures small { IfOk result (λ place. place < 2 ^ 40) }
@@ -98,7 +100,7 @@ pub(crate) fn read_pair(frames: &Frames, level: u8, address: u32) -> Result<(u64
 }
 
 /// Writes a word at a place.
-#[inline]
+#[inline(always)]
 pub(crate) fn write(frames: &mut Frames, place: u64, word: u64) -> Result<(), Stop>
     requires { word < 2 ^ 40 }
     ensures size { length frames.new.words ≡ length frames.old.words }

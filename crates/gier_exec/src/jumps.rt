@@ -15,6 +15,7 @@ use crate::stop::Stop;
 use gier_frames::Frames;
 
 /// JUMP: goes on at an address ahead.
+#[inline(always)]
 pub(crate) fn jump(m: &Machine, address: u32, words: u32) -> Result<u32, Stop>
     ensures row { (code input : List ℕ) (s : State) → length code ≡ words → Comes (jumps code (length s.words) (regs_of m.now s input) address) (regs_of m.now s input) result }
     ensures goes { IfOk result (λ next. Goes words m.now next m.now) }
@@ -27,6 +28,7 @@ pub(crate) fn jump(m: &Machine, address: u32, words: u32) -> Result<u32, Stop>
 }
 
 /// FALSE: where R is 0, goes on at an address ahead.
+#[inline(always)]
 pub(crate) fn jump_if_false(m: &Machine, address: u32, words: u32) -> Result<u32, Stop>
     ensures row { (code input : List ℕ) (s : State) (l : ℕ) → length code ≡ words → Comes (effect code (length s.words) (regs_of m.now s input) False l address) (regs_of m.now s input) result }
     ensures goes { IfOk result (λ next. Goes words m.now next m.now) }
@@ -39,6 +41,7 @@ pub(crate) fn jump_if_false(m: &Machine, address: u32, words: u32) -> Result<u32
 }
 
 /// TURN: charges a step and goes on at w.
+#[inline(always)]
 #[tactic(auto, using(crate::proofs::Falling::paid_falls))]
 pub(crate) fn turn(m: &mut Machine, frames: &Frames, address: u32, words: u32) -> Result<u32, Stop>
     ensures row { (code input : List ℕ) (l : ℕ) → frames.now.entered ≡ true → length code ≡ words → Comes (effect code (length frames.now.words) (regs_of m.old frames.now input) Turn l address) (regs_of m.new frames.now input) result }

@@ -1,8 +1,18 @@
 // The packed kinds of formals and actuals: AGREE compares them, and BYVAL looks at one.
-ghost use Rattle.std.specs.Prelude.{◌≡◌, ◌+◌, ◌*◌, ◌/◌, ◌<◌, ◌≤◌, ◌^◌, IfOk, OnOk, Err};
+ghost use Rattle.std.specs.Prelude.{◌≡◌, ◌+◌, ◌-◌, ◌*◌, ◌/◌, ◌%◌, ◌<◌, ◌≤◌, ◌^◌, ℕ, true, List, Some, IfOk, OnOk, Err, length};
+ghost use Rattle.gier_agree.specs.Packed.{kind_in};
+ghost use Rattle.gier_places.specs.Contents.{Agrees};
+ghost use Rattle.gier_order.specs.Flat.Row.{Regs, Row, needs, reads as reads_row};
+ghost use Rattle.gier_order.specs.Flat.Rows.{effect, cell_word, goes as goes_row, is_address, reads_order, agrees as agrees_row, agrees_with};
+ghost use Rattle.gier_order.specs.Flat.Kinds.{groups_for, handed, is_packed, is_field, all_fit};
+ghost use Rattle.gier_order.specs.declared.operation.Operation.TheVariants.{Agree, ByVal};
+ghost use Rattle.gier_exec.specs.Rows.{regs_of, code_in};
+ghost use Rattle.gier_exec.specs.Following.{Gets};
+ghost use Rattle.gier_exec.specs.Searching.{Searches, Acts};
+ghost use Rattle.gier_exec.specs.Agreeing.{matches};
 ghost use Rattle.gier_word.specs.Cause.{HasRisen};
 ghost use Rattle.gier_order.specs.Codes.{IsOrder};
-ghost use Rattle.gier_exec.specs.Registers.{Keeps, Goes};
+ghost use Rattle.gier_exec.specs.Registers.{Registers, Keeps, Goes};
 ghost use Rattle.gier_exec.specs.Reading.{CanRead, Reads, seen};
 ghost use Rattle.gier_exec.specs.declared.stop.Miss.TheVariants.{Drum as DrumFailed, Stop as Stopped};
 ghost use Rattle.gier_exec.specs.declared.stop.Stop.TheVariants.{Odd};
@@ -50,6 +60,8 @@ pub(crate) fn compare<D: Drum>(
     requires order { IsOrder order }
     requires place { m.now.place < object.now.words }
     requires can { CanRead (2 * object.now.words) object.now (seen D.room D.tracks D.journal D.faults drum.old places.old recent.old trace.old) }
+    ensures row { (tracks : List (List ℕ)) (input : List ℕ) → D.tracks drum.old ≡ Some tracks → Agrees (Some tracks) places.old.held → frames.now.entered ≡ true
+        → Acts object.now (seen D.room D.tracks D.journal D.faults drum.old places.old recent.old trace.old) (seen D.room D.tracks D.journal D.faults drum.new places.new recent.new trace.new) (effect (code_in tracks object.now) (length frames.now.words) (regs_of m.now frames.now input) Agree order.level order.address) (regs_of m.now frames.now input) result }
     ensures goes { IfOk result (λ next. Goes object.now.words m.now next m.now) }
     ensures reads { Reads (2 * object.now.words) object.now (seen D.room D.tracks D.journal D.faults drum.old places.old recent.old trace.old) (seen D.room D.tracks D.journal D.faults drum.new places.new recent.new trace.new) }
     ensures failed { result ≡ Err DrumFailed → HasRisen (D.faults drum.old) (D.faults drum.new) }
@@ -90,7 +102,8 @@ pub(crate) fn compare<D: Drum>(
 // The address in cell, which is that of a procedure that was handed over.
 fn formal_address(frames: &Frames, order: Order) -> Result<u64, Stop>
     requires { IsOrder order }
-    ensures { IfOk result (λ address. address < 2 ^ 40) }
+    ensures row { (code input : List ℕ) (m : Registers) (go : ℕ → Row) → frames.now.entered ≡ true → Gets (cell_word code (length frames.now.words) (regs_of m frames.now input) order.level order.address (λ place word. go word)) go result }
+    ensures small { IfOk result (λ address. address < 2 ^ 40) }
 {
     match place_of(frames, order.level, order.address) {
         Ok(place) => read(frames, place),
@@ -109,6 +122,8 @@ fn match_count<D: Drum>(
     count: u64,
 ) -> Result<(), Miss>
     requires can { CanRead 1 object.now (seen D.room D.tracks D.journal D.faults drum.old places.old recent.old trace.old) }
+    ensures row { (tracks : List (List ℕ)) (size : ℕ) (regs : Regs) (list : ℕ) → D.tracks drum.old ≡ Some tracks → Agrees (Some tracks) places.old.held
+        → Searches object.now (seen D.room D.tracks D.journal D.faults drum.old places.old recent.old trace.old) (seen D.room D.tracks D.journal D.faults drum.new places.new recent.new trace.new) (reads_order (code_in tracks object.now) size regs address (λ head. agrees_with (code_in tracks object.now) size regs address list count (handed head))) regs (λ done. needs (is_address (code_in tracks object.now) size regs (list + groups_for count)) (agrees_row (code_in tracks object.now) size regs (groups_for count) (address + 1) list count)) result }
     ensures few { OnOk result (count ≤ 80) }
     ensures some { OnOk result (1 ≤ count) }
     ensures reads { Reads 1 object.now (seen D.room D.tracks D.journal D.faults drum.old places.old recent.old trace.old) (seen D.room D.tracks D.journal D.faults drum.new places.new recent.new trace.new) }
@@ -146,6 +161,8 @@ fn compare_groups<D: Drum>(
     requires formals { formals ≤ 2 ^ 40 }
     requires actuals { actuals ≤ 2 ^ 40 }
     requires can { CanRead (2 * ((count + 9) / 10)) object.now (seen D.room D.tracks D.journal D.faults drum.old places.old recent.old trace.old) }
+    ensures row { (tracks : List (List ℕ)) (size : ℕ) (regs : Regs) → D.tracks drum.old ≡ Some tracks → Agrees (Some tracks) places.old.held
+        → Searches object.now (seen D.room D.tracks D.journal D.faults drum.old places.old recent.old trace.old) (seen D.room D.tracks D.journal D.faults drum.new places.new recent.new trace.new) (agrees_row (code_in tracks object.now) size regs (groups_for count) formals actuals count) regs (λ done. goes_row (code_in tracks object.now) size regs (actuals + groups_for count) regs) result }
     ensures reads { Reads (2 * ((count + 9) / 10)) object.now (seen D.room D.tracks D.journal D.faults drum.old places.old recent.old trace.old) (seen D.room D.tracks D.journal D.faults drum.new places.new recent.new trace.new) }
     ensures failed { result ≡ Err DrumFailed → HasRisen (D.faults drum.old) (D.faults drum.new) }
 {
@@ -179,6 +196,8 @@ fn compare_group<D: Drum>(
     left: u64,
 ) -> Result<(), Miss>
     requires can { CanRead 2 object.now (seen D.room D.tracks D.journal D.faults drum.old places.old recent.old trace.old) }
+    ensures row { (tracks : List (List ℕ)) (regs : Regs) (next : Row) → D.tracks drum.old ≡ Some tracks → Agrees (Some tracks) places.old.held
+        → Searches object.now (seen D.room D.tracks D.journal D.faults drum.old places.old recent.old trace.old) (seen D.room D.tracks D.journal D.faults drum.new places.new recent.new trace.new) (matches (code_in tracks object.now) regs formals actuals left next) regs (λ done. next) result }
     ensures reads { Reads 2 object.now (seen D.room D.tracks D.journal D.faults drum.old places.old recent.old trace.old) (seen D.room D.tracks D.journal D.faults drum.new places.new recent.new trace.new) }
     ensures failed { result ≡ Err DrumFailed → HasRisen (D.faults drum.old) (D.faults drum.new) }
 {
@@ -208,7 +227,7 @@ fn compare_group<D: Drum>(
         Ok(word) => word,
         Err(miss) => return Err(miss),
     };
-    if agree(formals, actuals) {
+    if fit(formals, actuals) {
         Ok(())
     } else {
         Err(Miss::Stop(Stop::Alarm(Alarm::Parameters)))
@@ -228,6 +247,8 @@ fn fetch_packed<D: Drum>(
     first: u8,
 ) -> Result<u64, Miss>
     requires can { CanRead 1 object.now (seen D.room D.tracks D.journal D.faults drum.old places.old recent.old trace.old) }
+    ensures row { (tracks : List (List ℕ)) (regs : Regs) (go : ℕ → Row) → D.tracks drum.old ≡ Some tracks → Agrees (Some tracks) places.old.held
+        → Searches object.now (seen D.room D.tracks D.journal D.faults drum.old places.old recent.old trace.old) (seen D.room D.tracks D.journal D.faults drum.new places.new recent.new trace.new) (reads_row (code_in tracks object.now) address (λ word. needs (is_packed first left word) (go word))) regs go result }
     ensures reads { Reads 1 object.now (seen D.room D.tracks D.journal D.faults drum.old places.old recent.old trace.old) (seen D.room D.tracks D.journal D.faults drum.new places.new recent.new trace.new) }
     ensures failed { result ≡ Err DrumFailed → HasRisen (D.faults drum.old) (D.faults drum.new) }
 {
@@ -243,19 +264,35 @@ fn fetch_packed<D: Drum>(
 }
 
 // Whether the first `left` fields of a word are kinds from `first` on, and the others 0.
-fn are_kinds(word: u64, left: u64, first: u8) -> bool {
+fn are_kinds(word: u64, left: u64, first: u8) -> bool
+    ensures { result ≡ is_packed first left word }
+{
     for at in 0..GROUP as u8 {
-        let kind = kind_at(word, at);
-        let right = if u64::from(at) < left {
-            kind >= first && kind <= LAST_KIND
-        } else {
-            kind == 0
-        };
-        if !right {
+        if !is_right(word, at, left, first) {
             return false;
         }
     }
     true
+}
+
+// Whether a field is such a kind, or 0 behind the last one.
+fn is_right(word: u64, at: u8, left: u64, first: u8) -> bool
+    requires { at < 10 }
+    ensures { result ≡ is_field first left word at }
+{
+    let kind = kind_at(word, at);
+    if u64::from(at) < left {
+        kind >= first && kind <= LAST_KIND
+    } else {
+        kind == 0
+    }
+}
+
+// Whether all actuals of a word fit the formals of another.
+fn fit(formals: u64, actuals: u64) -> bool
+    ensures { result ≡ all_fit formals actuals }
+{
+    agree(formals, actuals)
 }
 
 /// BYVAL: R := 1 where formal R of the formal procedure in cell is by value, else 0.
@@ -272,6 +309,8 @@ pub(crate) fn look_at_kind<D: Drum>(
     requires order { IsOrder order }
     requires place { m.old.place < object.now.words }
     requires can { CanRead 2 object.now (seen D.room D.tracks D.journal D.faults drum.old places.old recent.old trace.old) }
+    ensures row { (tracks : List (List ℕ)) (input : List ℕ) → D.tracks drum.old ≡ Some tracks → Agrees (Some tracks) places.old.held → frames.now.entered ≡ true
+        → Acts object.now (seen D.room D.tracks D.journal D.faults drum.old places.old recent.old trace.old) (seen D.room D.tracks D.journal D.faults drum.new places.new recent.new trace.new) (effect (code_in tracks object.now) (length frames.now.words) (regs_of m.old frames.now input) ByVal order.level order.address) (regs_of m.new frames.now input) result }
     ensures keeps { Keeps m.old m.new }
     ensures goes { IfOk result (λ next. Goes object.now.words m.old next m.new) }
     ensures reads { Reads 2 object.now (seen D.room D.tracks D.journal D.faults drum.old places.old recent.old trace.old) (seen D.room D.tracks D.journal D.faults drum.new places.new recent.new trace.new) }
@@ -318,6 +357,8 @@ fn fetch_kind<D: Drum>(
     requires few { count ≤ 80 }
     requires list { list ≤ 2 ^ 40 }
     requires can { CanRead 1 object.now (seen D.room D.tracks D.journal D.faults drum.old places.old recent.old trace.old) }
+    ensures row { (tracks : List (List ℕ)) (regs : Regs) (go : ℕ → Row) → D.tracks drum.old ≡ Some tracks → Agrees (Some tracks) places.old.held
+        → Searches object.now (seen D.room D.tracks D.journal D.faults drum.old places.old recent.old trace.old) (seen D.room D.tracks D.journal D.faults drum.new places.new recent.new trace.new) (reads_row (code_in tracks object.now) (list + at / 10) (λ word. needs (is_packed 1 (count - at / 10 * 10) word) (go (kind_in word (at % 10))))) regs go result }
     ensures reads { Reads 1 object.now (seen D.room D.tracks D.journal D.faults drum.old places.old recent.old trace.old) (seen D.room D.tracks D.journal D.faults drum.new places.new recent.new trace.new) }
     ensures failed { result ≡ Err DrumFailed → HasRisen (D.faults drum.old) (D.faults drum.new) }
 {

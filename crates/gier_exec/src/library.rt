@@ -1,12 +1,24 @@
 // The standard procedures, on R, on the data and on the printer.
-ghost use Rattle.std.specs.Prelude.{◌≡◌, ◌≢◌, ◌+◌, ◌*◌, ◌/◌, ◌<◌, ◌≤◌, ◌^◌, IfOk, Err};
+ghost use Rattle.std.specs.Prelude.{◌≡◌, ◌≢◌, ◌+◌, ◌*◌, ◌/◌, ◌%◌, ◌<◌, ◌≤◌, ◌^◌, ◌++◌, ℕ, List, [], min, take, length, Some, IfOk, Ok, Err};
 ghost use Rattle.gier_word.specs.Cause.{HasCause, HasRisen};
-ghost use Rattle.gier_library.specs.Seen.{source_of};
+ghost use Rattle.gier_word.specs.Words.{int_of_word};
+ghost use Rattle.gier_word.specs.Standard.{integer_text, character_text, integer_read, character_read};
+ghost use Rattle.gier_io.specs.Device.{Puts};
+ghost use Rattle.gier_library.specs.Data.{Takes};
+ghost use Rattle.gier_library.specs.Seen.{source_of, ended, stand_of};
+ghost use Rattle.gier_frames.specs.State.{State};
+ghost use Rattle.gier_places.specs.Contents.{Agrees};
+ghost use Rattle.gier_order.specs.Flat.Row.{Regs, Row, reads, behind_bytes};
+ghost use Rattle.gier_order.specs.Flat.Rows.{bytes_of as bytes_in, piece, on, prints_words, prints_string, procedure};
+ghost use Rattle.gier_exec.specs.Rows.{regs_of, code_in};
+ghost use Rattle.gier_exec.specs.References.{Refers};
+ghost use Rattle.gier_exec.specs.Turning.{IsRest, Obeys};
+ghost use Rattle.gier_exec.specs.Standards.{on_from, Sends, Computes, Receives, PrintsOn};
 ghost use Rattle.gier_exec.specs.Registers.{Keeps, weight};
 ghost use Rattle.gier_exec.specs.Reading.{CanRead, Reads, seen};
 ghost use Rattle.gier_exec.specs.declared.stop.Miss.TheVariants.{Drum as DrumFailed, Stop as Stopped};
 ghost use Rattle.gier_exec.specs.declared.stop.Quit.TheVariants.{Miss as Missed, Read, Write};
-ghost use Rattle.gier_exec.specs.declared.stop.Stop.TheVariants.{Odd};
+ghost use Rattle.gier_exec.specs.declared.stop.Stop.TheVariants.{Alarm as Alarmed, Odd};
 
 use crate::Machine;
 use crate::number::{number_of, word_of};
@@ -18,7 +30,7 @@ use gier_io::{Sink, Source};
 use gier_library::{Data, InStop, OutStop, in_char, in_integer, out_bytes, out_char, out_integer};
 use gier_order::{Object, Recent};
 use gier_places::Places;
-use gier_word::Alarm;
+use gier_word::{Alarm, Int40, Spoil};
 
 // The numbers of the standard procedures.
 const OUT_INTEGER: u32 = 1;
@@ -56,6 +68,10 @@ pub(crate) fn library<D: Drum, S: Source, K: Sink>(
     number: u32,
 ) -> Result<(), Quit>
     requires can { CanRead (object.now.words + 1) object.now (seen D.room D.tracks D.journal D.faults drum.old places.old recent.old trace.old) }
+    ensures row { (tracks : List (List ℕ)) → D.tracks drum.old ≡ Some tracks → Agrees (Some tracks) places.old.held → m.old.place + 1 < object.now.words
+        → (read put taken : List ℕ) × Refers object.now read (seen D.room D.tracks D.journal D.faults drum.old places.old recent.old trace.old) (seen D.room D.tracks D.journal D.faults drum.new places.new recent.new trace.new)
+        × Puts (K.holds out.old) put (K.holds out.new) × Takes (stand_of S.left input.old) taken (stand_of S.left input.new)
+        × ((s : State) (rest : List ℕ) → IsRest (ended input.new) rest → Obeys (procedure (code_in tracks object.now) (length s.words) (regs_of m.old s (taken ++ rest)) number) (regs_of m.old s (taken ++ rest)) (regs_of m.new s rest) read put taken (on_from m.old.place result)) }
     ensures keeps { Keeps m.old m.new }
     ensures lighter { weight m.new ≤ weight m.old }
     ensures reads { Reads (object.now.words + 1) object.now (seen D.room D.tracks D.journal D.faults drum.old places.old recent.old trace.old) (seen D.room D.tracks D.journal D.faults drum.new places.new recent.new trace.new) }
@@ -68,47 +84,61 @@ pub(crate) fn library<D: Drum, S: Source, K: Sink>(
     ensures odd { result ≡ Err (Missed (Stopped Odd)) → (m.new ≡ m.old) × ((out.new ≡ out.old) × (input.new ≡ input.old)) }
 {
     match number {
-        OUT_INTEGER | OUT_CR | OUT_CHAR => print(m, out, number),
+        OUT_INTEGER => print_integer(m.r(), out),
         OUT_TEXT => print_text(object, drum, places, recent, trace, out, m.r()),
-        IN_INTEGER | IN_CHAR => take(m, input, number),
-        ABS | SIGN => compute(m, number),
+        OUT_CR => print_bytes(b"\n", out),
+        OUT_CHAR => print_character(m.r(), out),
+        IN_INTEGER => take_integer(m, input),
+        IN_CHAR => take_character(m, input),
+        ABS => compute(m, number_of(m.r()).abs()),
+        SIGN => compute(m, Ok(number_of(m.r()).sign())),
         _ => Err(Quit::Miss(ODD)),
     }
 }
 
-// `outinteger`, `outcr` and `outchar`.
-fn print<K: Sink>(m: &Machine, out: &mut K, number: u32) -> Result<(), Quit>
+// `outinteger`.
+fn print_integer<K: Sink>(r: u64, out: &mut K) -> Result<(), Quit>
+    requires { r < 2 ^ 40 }
+    ensures sends { Sends K.holds (Ok (integer_text (int_of_word r))) out.old result out.new }
     ensures homely { result ≢ Err (Missed DrumFailed) }
     ensures no_read { result ≢ Err Read }
     ensures sink_later { K.faults out.old ≤ K.faults out.new }
     ensures sink_failed { result ≡ Err Write → HasRisen (K.faults out.old) (K.faults out.new) }
     ensures no_odd { result ≢ Err (Missed (Stopped Odd)) }
 {
-    match number {
-        OUT_INTEGER => match out_integer(number_of(m.r()), out) {
-            Ok(()) => Ok(()),
-            Err(_) => Err(Quit::Write),
-        },
-        OUT_CR => print_bytes(b"\n", out),
-        _ => match out_char(number_of(m.r()), out) {
-            Ok(()) => Ok(()),
-            Err(OutStop::Alarm(alarm)) => Err(alarmed(alarm)),
-            Err(OutStop::Write) => Err(Quit::Write),
-        },
+    match out_integer(number_of(r), out) {
+        Ok(()) => Ok(()),
+        Err(_) => Err(Quit::Write),
+    }
+}
+
+// `outchar`.
+fn print_character<K: Sink>(r: u64, out: &mut K) -> Result<(), Quit>
+    requires { r < 2 ^ 40 }
+    ensures sends { Sends K.holds (character_text (int_of_word r)) out.old result out.new }
+    ensures homely { result ≢ Err (Missed DrumFailed) }
+    ensures no_read { result ≢ Err Read }
+    ensures sink_later { K.faults out.old ≤ K.faults out.new }
+    ensures sink_failed { result ≡ Err Write → HasRisen (K.faults out.old) (K.faults out.new) }
+    ensures no_odd { result ≢ Err (Missed (Stopped Odd)) }
+{
+    match out_char(number_of(r), out) {
+        Ok(()) => Ok(()),
+        Err(OutStop::Alarm(alarm)) => Err(alarmed(alarm)),
+        Err(OutStop::Write) => Err(Quit::Write),
     }
 }
 
 // The alarm ends the run.
 fn alarmed(alarm: Alarm) -> Quit
-    ensures read { result ≢ Read }
-    ensures write { result ≢ Write }
-    ensures drum { result ≢ Missed DrumFailed }
-    ensures odd { result ≢ Missed (Stopped Odd) }
+    ensures { result ≡ Missed (Stopped (Alarmed alarm)) }
 {
     Quit::Miss(Miss::Stop(Stop::Alarm(alarm)))
 }
 
+// `outcr`, and a part of `outtext`.
 fn print_bytes<K: Sink>(bytes: &[u8], out: &mut K) -> Result<(), Quit>
+    ensures sends { Sends K.holds (Ok bytes.now) out.old result out.new }
     ensures homely { result ≢ Err (Missed DrumFailed) }
     ensures no_read { result ≢ Err Read }
     ensures sink_later { K.faults out.old ≤ K.faults out.new }
@@ -121,8 +151,9 @@ fn print_bytes<K: Sink>(bytes: &[u8], out: &mut K) -> Result<(), Quit>
     }
 }
 
-// `ininteger` and `inchar`.
-fn take<S: Source>(m: &mut Machine, input: &mut Data<S>, number: u32) -> Result<(), Quit>
+// `ininteger`.
+fn take_integer<S: Source>(m: &mut Machine, input: &mut Data<S>) -> Result<(), Quit>
+    ensures takes { (bytes : List ℕ) × Takes (stand_of S.left input.old) bytes (stand_of S.left input.new) × Receives integer_read bytes (ended input.new) m.old result m.new }
     ensures homely { result ≢ Err (Missed DrumFailed) }
     ensures no_write { result ≢ Err Write }
     ensures keeps { Keeps m.old m.new }
@@ -132,14 +163,7 @@ fn take<S: Source>(m: &mut Machine, input: &mut Data<S>, number: u32) -> Result<
     ensures source_failed { result ≡ Err Read → HasRisen (S.faults (source_of input.old)) (S.faults (source_of input.new)) }
     ensures no_odd { result ≢ Err (Missed (Stopped Odd)) }
 {
-    let taken = match number {
-        IN_INTEGER => in_integer(input),
-        _ => match in_char(input) {
-            Ok(number) => Ok(number),
-            Err(_) => Err(InStop::Read),
-        },
-    };
-    match taken {
+    match in_integer(input) {
         Ok(number) => {
             m.set_r(word_of(number));
             Ok(())
@@ -149,8 +173,30 @@ fn take<S: Source>(m: &mut Machine, input: &mut Data<S>, number: u32) -> Result<
     }
 }
 
-// `abs` and `sign`.
-fn compute(m: &mut Machine, number: u32) -> Result<(), Quit>
+// `inchar`.
+fn take_character<S: Source>(m: &mut Machine, input: &mut Data<S>) -> Result<(), Quit>
+    ensures takes { (bytes : List ℕ) × Takes (stand_of S.left input.old) bytes (stand_of S.left input.new) × Receives character_read bytes (ended input.new) m.old result m.new }
+    ensures homely { result ≢ Err (Missed DrumFailed) }
+    ensures no_write { result ≢ Err Write }
+    ensures keeps { Keeps m.old m.new }
+    ensures lighter { weight m.new ≤ weight m.old }
+    ensures same_reference { input.new.source.ghost_name ≡ input.old.source.ghost_name }
+    ensures source_later { S.faults (source_of input.old) ≤ S.faults (source_of input.new) }
+    ensures source_failed { result ≡ Err Read → HasRisen (S.faults (source_of input.old)) (S.faults (source_of input.new)) }
+    ensures no_odd { result ≢ Err (Missed (Stopped Odd)) }
+{
+    match in_char(input) {
+        Ok(number) => {
+            m.set_r(word_of(number));
+            Ok(())
+        }
+        Err(_) => Err(Quit::Read),
+    }
+}
+
+// `abs` and `sign`, which give a number or spoil it.
+fn compute(m: &mut Machine, given: Result<Int40, Spoil>) -> Result<(), Quit>
+    ensures computes { Computes m.old given m.new result }
     ensures homely { result ≢ Err (Missed DrumFailed) }
     ensures no_read { result ≢ Err Read }
     ensures no_write { result ≢ Err Write }
@@ -158,12 +204,7 @@ fn compute(m: &mut Machine, number: u32) -> Result<(), Quit>
     ensures lighter { weight m.new ≤ weight m.old }
     ensures no_odd { result ≢ Err (Missed (Stopped Odd)) }
 {
-    let r = number_of(m.r());
-    let result = match number {
-        ABS => r.abs(),
-        _ => Ok(r.sign()),
-    };
-    match result {
+    match given {
         Ok(number) => {
             m.set_r(word_of(number));
             Ok(())
@@ -184,6 +225,9 @@ fn print_text<D: Drum, K: Sink>(
 ) -> Result<(), Quit>
     requires address { address < 2 ^ 40 }
     requires can { CanRead (object.now.words + 1) object.now (seen D.room D.tracks D.journal D.faults drum.old places.old recent.old trace.old) }
+    ensures row { (tracks : List (List ℕ)) → D.tracks drum.old ≡ Some tracks → Agrees (Some tracks) places.old.held
+        → (read put : List ℕ) × Refers object.now read (seen D.room D.tracks D.journal D.faults drum.old places.old recent.old trace.old) (seen D.room D.tracks D.journal D.faults drum.new places.new recent.new trace.new) × Puts (K.holds out.old) put (K.holds out.new)
+        × ((size : ℕ) (regs : Regs) → PrintsOn (prints_string (code_in tracks object.now) size regs address) (on (code_in tracks object.now) size regs regs) read put result) }
     ensures no_read { result ≢ Err Read }
     ensures reads { Reads (object.now.words + 1) object.now (seen D.room D.tracks D.journal D.faults drum.old places.old recent.old trace.old) (seen D.room D.tracks D.journal D.faults drum.new places.new recent.new trace.new) }
     ensures sink_later { K.faults out.old ≤ K.faults out.new }
@@ -224,6 +268,9 @@ fn print_words<D: Drum, K: Sink>(
     requires length { length < 2 ^ 40 }
     requires within { address + (length + 4) / 5 ≤ object.now.words }
     requires can { CanRead ((length + 4) / 5) object.now (seen D.room D.tracks D.journal D.faults drum.old places.old recent.old trace.old) }
+    ensures row { (tracks : List (List ℕ)) → D.tracks drum.old ≡ Some tracks → Agrees (Some tracks) places.old.held
+        → (read put : List ℕ) × Refers object.now read (seen D.room D.tracks D.journal D.faults drum.old places.old recent.old trace.old) (seen D.room D.tracks D.journal D.faults drum.new places.new recent.new trace.new) × Puts (K.holds out.old) put (K.holds out.new)
+        × ((size : ℕ) (regs : Regs) → PrintsOn (prints_words (code_in tracks object.now) size regs ((length + 4) / 5) address length) (on (code_in tracks object.now) size regs regs) read put result) }
     ensures no_read { result ≢ Err Read }
     ensures reads { Reads ((length + 4) / 5) object.now (seen D.room D.tracks D.journal D.faults drum.old places.old recent.old trace.old) (seen D.room D.tracks D.journal D.faults drum.new places.new recent.new trace.new) }
     ensures sink_later { K.faults out.old ≤ K.faults out.new }
@@ -261,6 +308,9 @@ fn print_word<D: Drum, K: Sink>(
     left: u64,
 ) -> Result<(), Quit>
     requires can { CanRead 1 object.now (seen D.room D.tracks D.journal D.faults drum.old places.old recent.old trace.old) }
+    ensures row { (tracks : List (List ℕ)) → D.tracks drum.old ≡ Some tracks → Agrees (Some tracks) places.old.held
+        → (read put : List ℕ) × Refers object.now read (seen D.room D.tracks D.journal D.faults drum.old places.old recent.old trace.old) (seen D.room D.tracks D.journal D.faults drum.new places.new recent.new trace.new) × Puts (K.holds out.old) put (K.holds out.new)
+        × ((go : Row) → PrintsOn (reads (code_in tracks object.now) address (λ word. behind_bytes (take (min left piece) (bytes_in word)) go)) go read put result) }
     ensures no_read { result ≢ Err Read }
     ensures reads { Reads 1 object.now (seen D.room D.tracks D.journal D.faults drum.old places.old recent.old trace.old) (seen D.room D.tracks D.journal D.faults drum.new places.new recent.new trace.new) }
     ensures sink_later { K.faults out.old ≤ K.faults out.new }
@@ -275,7 +325,9 @@ fn print_word<D: Drum, K: Sink>(
 }
 
 // The five bytes of a word, the first in its highest bits.
-fn bytes_of(word: u64) -> [u8; 5] {
+fn bytes_of(word: u64) -> [u8; 5]
+    ensures { result ≡ bytes_in word }
+{
     [
         byte_at(word, 32),
         byte_at(word, 24),
@@ -287,6 +339,7 @@ fn bytes_of(word: u64) -> [u8; 5] {
 
 fn byte_at(word: u64, shift: u32) -> u8
     requires { shift < 64 }
+    ensures { result ≡ word / 2 ^ shift % 256 }
 {
     ((word >> shift) % VALUES) as u8
 }

@@ -42,6 +42,7 @@ impl Machine {
     }
 
     /// The address of the next order, or of the one that stopped the run.
+    #[inline(always)]
     pub fn place(&self) -> u32
         ensures { result ≡ self.now.place }
     {
@@ -49,6 +50,7 @@ impl Machine {
     }
 
     /// The register R, a word below 2^40.
+    #[inline(always)]
     pub fn r(&self) -> u64
         ensures value { result ≡ self.now.r }
         ensures small { result < 2 ^ 40 }
@@ -88,6 +90,7 @@ impl Machine {
     }
 
     // Pays for an order that enters nothing.
+    #[inline(always)]
     pub(crate) fn charge(&mut self)
         requires { 0 < self.old.steps }
         ensures { self.new ≡ record self.old { steps = self.old.steps - 1 } }
@@ -111,6 +114,7 @@ impl Machine {
     }
 
     // The order that comes next.
+    #[inline(always)]
     pub(crate) fn set_place(&mut self, place: u32)
         ensures { self.new ≡ record self.old { place = place } }
     {
@@ -118,6 +122,7 @@ impl Machine {
     }
 
     // A word for R.
+    #[inline(always)]
     pub(crate) fn set_r(&mut self, word: u64)
         requires { word < 2 ^ 40 }
         ensures { self.new ≡ record self.old { r = word } }
@@ -134,6 +139,7 @@ impl Machine {
     }
 
     // The address behind the order.
+    #[inline(always)]
     pub(crate) fn behind(&self) -> u64
         ensures value { result ≡ self.now.place + 1 }
         ensures small { result < 2 ^ 33 }
@@ -142,6 +148,7 @@ impl Machine {
     }
 
     // An address ahead to go on at; odd where it isn't one of the object's.
+    #[inline(always)]
     #[tactic(auto, using(crate::proofs::Falling::ahead_falls))]
     pub(crate) fn ahead(&self, next: u64, words: u32) -> Result<u32, Stop>
         requires { self.now.place < next }
@@ -157,6 +164,7 @@ impl Machine {
 }
 
 /// An address to go to; odd where it isn't one of the object's.
+#[inline(always)]
 pub(crate) fn address_of(word: u64, words: u32) -> Result<u32, Stop>
     ensures value { IfOk result (λ address. address ≡ word) }
     ensures found { result ≡ (if nat_lt word words then Ok word else Err Odd) }

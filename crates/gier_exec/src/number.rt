@@ -8,6 +8,7 @@ use gier_order::Operation;
 use gier_word::{Alarm, Int40, Spoil, Word40};
 
 /// The number that a word stands for.
+#[inline(always)]
 pub(crate) fn number_of(word: u64) -> Int40
     requires { word < 2 ^ 40 }
     ensures { result ≡ int_of_word word }
@@ -19,6 +20,7 @@ pub(crate) fn number_of(word: u64) -> Int40
 }
 
 /// The word of a number.
+#[inline(always)]
 pub(crate) fn word_of(number: Int40) -> u64
     ensures small { result < 2 ^ 40 }
     ensures value { result ≡ word_of_int number }
@@ -27,6 +29,7 @@ pub(crate) fn word_of(number: Int40) -> u64
 }
 
 // The word of a result, or the alarm in its place.
+#[inline(always)]
 fn answer(given: Result<Int40, Spoil>) -> Result<u64, Alarm>
     ensures value { result ≡ worded given }
     ensures small { IfOk result (λ word. word < 2 ^ 40) }
@@ -47,6 +50,7 @@ pub(crate) fn negative(r: u64) -> Result<u64, Alarm>
 }
 
 /// TEST: 0 where `w * sign(r)` is above 0, else 1.
+#[inline(always)]
 pub(crate) fn tested(w: u64, r: u64) -> Result<u64, Alarm>
     requires w { w < 2 ^ 40 }
     requires r { r < 2 ^ 40 }
@@ -60,6 +64,7 @@ pub(crate) fn tested(w: u64, r: u64) -> Result<u64, Alarm>
 }
 
 /// ADD to POW; any other order is none of these and gives r.
+#[inline(always)]
 pub(crate) fn computed(operation: Operation, w: u64, r: u64) -> Result<u64, Alarm>
     requires w { w < 2 ^ 40 }
     requires r { r < 2 ^ 40 }
@@ -79,6 +84,7 @@ pub(crate) fn computed(operation: Operation, w: u64, r: u64) -> Result<u64, Alar
 }
 
 /// What an order on w and R makes of them; any other order is none of these.
+#[inline(always)]
 pub(crate) fn combination(operation: Operation, w: u64, r: u64) -> Result<u64, Alarm>
     requires w { w < 2 ^ 40 }
     requires r { r < 2 ^ 40 }
@@ -94,6 +100,7 @@ pub(crate) fn combination(operation: Operation, w: u64, r: u64) -> Result<u64, A
 }
 
 /// LT to NE and AND to EQUIV: 1 or 0.
+#[inline(always)]
 pub(crate) fn holds(operation: Operation, w: u64, r: u64) -> bool
     requires w { w < 2 ^ 40 }
     requires r { r < 2 ^ 40 }

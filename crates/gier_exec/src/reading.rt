@@ -1,6 +1,10 @@
 // Words of the object, which are read through the places alone; each is noted in both counts of references.
-ghost use Rattle.std.specs.Prelude.{◌≡◌, ◌<◌, ◌≤◌, ◌^◌, ℕ, List, Some, IfOk, OnOk, Err};
-ghost use Rattle.gier_order.specs.Flat.Row.{Row, reads};
+ghost use Rattle.std.specs.Prelude.{◌≡◌, ◌<◌, ◌≤◌, ◌^◌, ℕ, true, List, Some, IfOk, OnOk, Err};
+ghost use Rattle.gier_order.specs.declared.order.Order.{Order};
+ghost use Rattle.gier_order.specs.Flat.Row.{Regs, Row, needs, reads};
+ghost use Rattle.gier_order.specs.Flat.Rows.{reads_order};
+ghost use Rattle.gier_order.specs.Flat.Kinds.{is_a};
+ghost use Rattle.gier_exec.specs.Searching.{Searches};
 ghost use Rattle.gier_places.specs.Contents.{Agrees};
 ghost use Rattle.gier_exec.specs.Rows.{word_in, code_in};
 ghost use Rattle.gier_exec.specs.References.{Refers, Fetches, read_at, fetched_at};
@@ -88,6 +92,8 @@ pub(crate) fn fetch_order<D: Drum>(
 ) -> Result<Order, Miss>
     requires can { CanRead 1 object.now (seen D.room D.tracks D.journal D.faults drum.old places.old recent.old trace.old) }
     ensures reads { Reads 1 object.now (seen D.room D.tracks D.journal D.faults drum.old places.old recent.old trace.old) (seen D.room D.tracks D.journal D.faults drum.new places.new recent.new trace.new) }
+    ensures row { (tracks : List (List ℕ)) (size : ℕ) (regs : Regs) (go : Order → Row) → D.tracks drum.old ≡ Some tracks → Agrees (Some tracks) places.old.held
+        → Searches object.now (seen D.room D.tracks D.journal D.faults drum.old places.old recent.old trace.old) (seen D.room D.tracks D.journal D.faults drum.new places.new recent.new trace.new) (reads_order (code_in tracks object.now) size regs address go) regs go result }
     ensures order { IfOk result IsOrder }
     ensures within { IfOk result (λ order. address < object.now.words) }
     ensures failed { result ≡ Err DrumFailed → HasRisen (D.faults drum.old) (D.faults drum.new) }
@@ -114,7 +120,10 @@ pub(crate) fn fetch_only<D: Drum>(
 ) -> Result<Order, Miss>
     requires can { CanRead 1 object.now (seen D.room D.tracks D.journal D.faults drum.old places.old recent.old trace.old) }
     ensures reads { Reads 1 object.now (seen D.room D.tracks D.journal D.faults drum.old places.old recent.old trace.old) (seen D.room D.tracks D.journal D.faults drum.new places.new recent.new trace.new) }
+    ensures row { (tracks : List (List ℕ)) (size : ℕ) (regs : Regs) (go : Order → Row) → D.tracks drum.old ≡ Some tracks → Agrees (Some tracks) places.old.held
+        → Searches object.now (seen D.room D.tracks D.journal D.faults drum.old places.old recent.old trace.old) (seen D.room D.tracks D.journal D.faults drum.new places.new recent.new trace.new) (reads_order (code_in tracks object.now) size regs address (λ order. needs (is_a operation order) (go order))) regs go result }
     ensures order { IfOk result IsOrder }
+    ensures only { IfOk result (λ order. is_a operation order ≡ true) }
     ensures within { IfOk result (λ order. address < object.now.words) }
     ensures failed { result ≡ Err DrumFailed → HasRisen (D.faults drum.old) (D.faults drum.new) }
 {

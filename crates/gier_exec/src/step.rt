@@ -1,13 +1,15 @@
 // One order of the machine: its word is read and decoded, and the order is carried out.
-ghost use Rattle.std.specs.Prelude.{◌≡◌, ◌≢◌, ◌+◌, ◌*◌, ◌<◌, ◌≤◌, ◌^◌, ℕ, List, Some, length};
+ghost use Rattle.std.specs.Prelude.{◌≡◌, ◌≢◌, ◌+◌, ◌*◌, ◌<◌, ◌≤◌, ◌^◌, ◌++◌, ℕ, List, Some, length};
 ghost use Rattle.gier_places.specs.Contents.{Agrees};
-ghost use Rattle.gier_order.specs.Codes.{order_at};
 ghost use Rattle.gier_order.specs.Flat.Rows.{row as row_of_order};
 ghost use Rattle.gier_exec.specs.Rows.{regs_of, word_in, code_in};
-ghost use Rattle.gier_exec.specs.References.{Refers, Follows, IsSettledWord, turned};
+ghost use Rattle.gier_exec.specs.References.{Refers};
+ghost use Rattle.gier_exec.specs.Turning.{IsRest, Follows, turned};
+ghost use Rattle.gier_io.specs.Device.{Puts};
+ghost use Rattle.gier_library.specs.Data.{Takes};
 ghost use Rattle.gier_word.specs.Cause.{HasRisen};
 ghost use Rattle.gier_order.specs.Counts.{taken};
-ghost use Rattle.gier_library.specs.Seen.{source_of};
+ghost use Rattle.gier_library.specs.Seen.{source_of, ended, stand_of};
 ghost use Rattle.gier_best.specs.Traced.{AreTracks, KeepsSettings};
 ghost use Rattle.gier_exec.specs.Registers.{measure};
 ghost use Rattle.gier_exec.specs.Reading.{tracks_for, ReadsMore, seen};
@@ -36,6 +38,7 @@ use gier_word::Odd;
 /// `trace`, by its track within the object. `Read`, `Write` and `Drum` come only where the device's count of faults rose.
 /// A Turn other than On leaves `place` at the order, and Spoilt leaves the machine, the frames, the data and the printer as they were. The object has at most 2^24 words, `place` is one of their addresses, and
 /// the tracks of the object lie in the drum's room. Fewer than 2^119 references and transfers were counted.
+#[inline(always)]
 pub fn step_order<D: Drum, S: Source, K: Sink>(
     m: &mut Machine,
     frames: &mut Frames,
@@ -56,9 +59,10 @@ pub fn step_order<D: Drum, S: Source, K: Sink>(
     ensures stays { result ≢ On → m.new.place ≡ m.old.place }
     ensures spoilt { (odd : Odd) → result ≡ Spoilt odd → (m.new ≡ m.old) × ((frames.new ≡ frames.old) × ((out.new ≡ out.old) × (input.new ≡ input.old))) }
     ensures order { (odd : Odd) → result ≡ Spoilt odd → odd.place ≡ m.old.place }
-    ensures row { (tracks : List (List ℕ)) (input : List ℕ) → D.tracks drum.old ≡ Some tracks → Agrees (Some tracks) places.old.held → IsSettledWord (order_at (word_in tracks object.now m.old.place))
-        → (refs : List ℕ) × Refers object.now refs (seen D.room D.tracks D.journal D.faults drum.old places.old recent.old trace.old) (seen D.room D.tracks D.journal D.faults drum.new places.new recent.new trace.new)
-        × Follows (row_of_order (code_in tracks object.now) (length frames.old.words) (regs_of m.old frames.old input)) refs (regs_of m.new frames.new input) m.old.place (word_in tracks object.now m.old.place) result }
+    ensures row { (tracks : List (List ℕ)) → D.tracks drum.old ≡ Some tracks → Agrees (Some tracks) places.old.held
+        → (read put taken : List ℕ) × Refers object.now read (seen D.room D.tracks D.journal D.faults drum.old places.old recent.old trace.old) (seen D.room D.tracks D.journal D.faults drum.new places.new recent.new trace.new)
+        × Puts (K.holds out.old) put (K.holds out.new) × Takes (stand_of S.left input.old) taken (stand_of S.left input.new)
+        × ((rest : List ℕ) → IsRest (ended input.new) rest → Follows (row_of_order (code_in tracks object.now) (length frames.old.words) (regs_of m.old frames.old (taken ++ rest))) (regs_of m.old frames.old (taken ++ rest)) (regs_of m.new frames.new rest) read put taken m.old.place (word_in tracks object.now m.old.place) result) }
     ensures measure { result ≡ On → measure object.now.words m.new < measure object.now.words m.old }
     ensures steps { m.new.steps ≤ m.old.steps }
     ensures references { taken recent.new ≤ taken recent.old + 2 * object.now.words + 2 }
@@ -108,6 +112,7 @@ fn spoilt(place: u32, word: u64) -> Turn
 }
 
 // What comes of an order at a place that doesn't let the run go on.
+#[inline(always)]
 fn turn_of(quit: Quit, place: u32, word: u64) -> Turn
     ensures value { result ≡ turned quit place word }
     ensures off { result ≢ On }

@@ -23,6 +23,7 @@ use gier_order::{Operation, Order};
 const HEADER: u32 = 3;
 
 /// Carries out an order of these; any other is odd.
+#[inline(always)]
 pub(crate) fn plain(
     m: &mut Machine,
     frames: &mut Frames,
@@ -57,6 +58,7 @@ pub(crate) fn plain(
 }
 
 // What R becomes by an order that changes nothing else.
+#[inline(always)]
 fn value(m: &Machine, frames: &Frames, operation: Operation, order: Order) -> Result<u64, Stop>
     requires order { IsOrder order }
     requires kept { IsKept frames.now }
@@ -80,6 +82,7 @@ fn value(m: &Machine, frames: &Frames, operation: Operation, order: Order) -> Re
 }
 
 // The orders on w and R.
+#[inline(always)]
 fn combined(m: &Machine, frames: &Frames, operation: Operation, address: u32) -> Result<u64, Stop>
     ensures row { (code input : List ℕ) → frames.now.entered ≡ true → m.now.place + 1 < length code → (l : ℕ) → is_combined operation ≡ true → ComesWith (effect code (length frames.now.words) (regs_of m.now frames.now input) operation l address) (regs_of m.now frames.now input) result }
     ensures small { IfOk result (λ word. word < 2 ^ 40) }
@@ -95,6 +98,7 @@ fn combined(m: &Machine, frames: &Frames, operation: Operation, address: u32) ->
 }
 
 // TAKE: cell.
+#[inline(always)]
 fn take(frames: &Frames, order: Order) -> Result<u64, Stop>
     requires { IsOrder order }
     ensures row { (code input : List ℕ) (m : Registers) (go : ℕ → Row) → frames.now.entered ≡ true → Gets (cell_word code (length frames.now.words) (regs_of m frames.now input) order.level order.address (λ place word. go word)) go result }
@@ -130,6 +134,7 @@ fn element(frames: &Frames, order: Order) -> Result<u64, Stop>
 }
 
 // KEEP: w := R.
+#[inline(always)]
 fn keep(m: &mut Machine, frames: &mut Frames, address: u32) -> Result<(), Stop>
     ensures row { (code input : List ℕ) → (l : ℕ) → frames.old.entered ≡ true → m.old.place + 1 < length code → ComesOn (effect code (length frames.old.words) (regs_of m.old frames.old input) Keep l address) (regs_of m.new frames.new input) result }
     ensures same { m.new ≡ m.old }
@@ -143,6 +148,7 @@ fn keep(m: &mut Machine, frames: &mut Frames, address: u32) -> Result<(), Stop>
 }
 
 // PUT: the word at place w := R.
+#[inline(always)]
 fn put(m: &mut Machine, frames: &mut Frames, address: u32) -> Result<(), Stop>
     ensures row { (code input : List ℕ) → (l : ℕ) → frames.old.entered ≡ true → m.old.place + 1 < length code → ComesOn (effect code (length frames.old.words) (regs_of m.old frames.old input) Put l address) (regs_of m.new frames.new input) result }
     ensures same { m.new ≡ m.old }

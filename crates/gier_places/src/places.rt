@@ -73,7 +73,7 @@ impl Places {
     ///
     /// It is read into an empty place, or else in place of the track that was referred to least recently. After a
     /// failure the places are as before. Fewer than 2^120 transfers were made.
-    #[inline]
+    #[inline(always)]
     pub fn refer<D: Drum>(&mut self, track: u32, drum: &mut D) -> Result<&[u64; 40], Failed>
         requires in_room { track < D.room drum.old }
         requires few { self.old.transfers < 2 ^ 120 }
@@ -113,7 +113,7 @@ impl Places {
     }
 
     // Makes the track the one referred to last.
-    #[inline]
+    #[inline(always)]
     fn fetch<D: Drum>(&mut self, track: u32, drum: &mut D) -> Result<(), Failed>
         requires in_room { track < D.room drum.old }
         requires few { self.old.transfers < 2 ^ 120 }
@@ -140,7 +140,7 @@ impl Places {
         Ok(())
     }
 
-    #[inline]
+    #[inline(always)]
     fn place_of(&self, track: u32) -> Option<usize>
         ensures found { result ≡ position (λ h. h.track == track) self.now.held }
         ensures fits { length self.now.held ≤ self.now.places }
@@ -184,6 +184,7 @@ impl Places {
         self.transfers += 1;
     }
 
+    #[inline(always)]
     fn latest(&self) -> &[u64; 40]
         requires { 0 < length self.now.held }
         ensures value { result.now ≡ latest_words self.now.held }
