@@ -1,2 +1,9 @@
 pub mod Numbers
 pub mod Obeying
+pub mod Drops
+pub mod Moves
+pub mod Turns
+pub mod Words
+pub mod Following
+pub mod Wholes
+pub mod Live

@@ -3,7 +3,7 @@ use Rattle.std.specs.Prelude.{◌≡◌, ◌-◌, ◌≤◌, ℕ, [], length}
 use Rattle.gier_frames.specs.State.{State as Frames, fresh as no_frames}
 use Rattle.gier_places.specs.Contents.{Contents, StandsFor as Places}
 use Rattle.gier_order.specs.Counts.{Counts, StandsFor as Counted, taken}
-use Rattle.gier_best.specs.Traced.{Traced, AreTracks}
+use Rattle.gier_best.specs.Traced.{Traced, HasNoted, AreTracks}
 use Rattle.gier_exec.specs.Registers.{Registers, begun_at}
 use Rattle.gier_runner.specs.declared.settings.Settings.{Settings}
 use Rattle.gier_runner.specs.declared.settings.Report.{Report}
@@ -36,4 +36,5 @@ pub record Begun (given : Settings) (start : ℕ) (s : State) : Type 0 where
   pub unread : s.places.transfers ≡ 0
   pub counted : Counted s.recent []
   pub none : taken s.recent ≡ 0
+  pub noted : HasNoted s.trace []
   pub tracks : AreTracks s.trace

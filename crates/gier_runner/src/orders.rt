@@ -1,8 +1,15 @@
 // One order after another, until one ends the run.
-ghost use Rattle.std.specs.Prelude.{◌≡◌, ◌≤◌, ◌<◌, ◌^◌, ◌+◌, length};
+ghost use Rattle.std.specs.Prelude.{◌≡◌, ◌≤◌, ◌<◌, ◌^◌, ◌+◌, ◌++◌, ℕ, List, Some, length};
 ghost use Rattle.gier_word.specs.Cause.{HasRisen};
-ghost use Rattle.gier_library.specs.Seen.{source_of};
-ghost use Rattle.gier_exec.specs.Reading.{tracks_for};
+ghost use Rattle.gier_places.specs.Contents.{Agrees};
+ghost use Rattle.gier_io.specs.Device.{Puts};
+ghost use Rattle.gier_library.specs.Data.{Takes};
+ghost use Rattle.gier_library.specs.Seen.{source_of, ended, stand_of};
+ghost use Rattle.gier_exec.specs.Reading.{tracks_for, seen};
+ghost use Rattle.gier_exec.specs.Rows.{regs_of, code_in};
+ghost use Rattle.gier_exec.specs.References.{Refers};
+ghost use Rattle.gier_exec.specs.Turning.{IsRest};
+ghost use Rattle.gier_runner.specs.FlatRun.{RunsTo};
 ghost use Rattle.gier_runner.specs.Running.{Counted, KeepsSizes, OnlyReads, devices, parts};
 ghost use Rattle.gier_runner.specs.declared.ending.Ending.TheVariants.{Read, Write, Drum as DrumFailed};
 
@@ -35,6 +42,13 @@ pub(crate) fn obey<D: Drum, S: Source, K: Sink>(
     requires in_room { object.now.first_track + tracks_for object.now.words ≤ D.room drum.old }
     requires counted { Counted object.now.words m.old recent.old places.old }
     ensures place { m.new.place < object.now.words }
+    ensures flat { (tracks : List (List ℕ)) → D.tracks drum.old ≡ Some tracks → Agrees (Some tracks) places.old.held
+        → (read put taken : List ℕ)
+        × Refers object.now read (seen D.room D.tracks D.journal D.faults drum.old places.old recent.old trace.old)
+        (seen D.room D.tracks D.journal D.faults drum.new places.new recent.new trace.new)
+        × Puts (K.holds out.old) put (K.holds out.new) × Takes (stand_of S.left input.old) taken (stand_of S.left input.new)
+        × ((rest : List ℕ) → IsRest (ended input.new) rest
+        → RunsTo (code_in tracks object.now) (length frames.old.words) (regs_of m.old frames.old (taken ++ rest)) (regs_of m.new frames.new rest) read put result) }
     ensures sizes { KeepsSizes object.now.words (parts m.old frames.old places.old trace.old) (parts m.new frames.new places.new trace.new) }
     ensures reads { OnlyReads (devices D.room D.tracks D.journal D.faults S.faults K.faults drum.old (source_of input.old) out.old)
         (devices D.room D.tracks D.journal D.faults S.faults K.faults drum.new (source_of input.new) out.new) }

@@ -1,14 +1,23 @@
 // The runner: what is opened once, and a run with it.
-ghost use Rattle.std.specs.Prelude.{◌≡◌, ◌≤◌, ◌<◌, ◌^◌, ◌+◌, ℕ, List, [], length, IfOk};
+ghost use Rattle.std.specs.Prelude.{◌≡◌, ◌≤◌, ◌<◌, ◌^◌, ◌+◌, ◌++◌, ℕ, Bool, List, [], length, take, drop, map, Some, IfOk};
 ghost use Rattle.gier_word.specs.Cause.{HasRisen};
 ghost use Rattle.gier_order.specs.Counts.{StandsFor as Counts};
 ghost use Rattle.gier_order.specs.Misses.{misses};
+ghost use Rattle.gier_order.specs.Flat.Run.{flat};
+ghost use Rattle.gier_order.specs.Flat.Live.{live_in};
+ghost use Rattle.gier_io.specs.Device.{Puts};
+ghost use Rattle.gier_library.specs.Data.{limit, Takes};
+ghost use Rattle.gier_frames.specs.Stop.{activations};
 ghost use Rattle.gier_frames.specs.State.{fresh as no_frames, cleared};
-ghost use Rattle.gier_best.specs.Traced.{AreTracks, fresh as no_trace};
+ghost use Rattle.gier_best.specs.Traced.{HasNoted, AreTracks, fresh as no_trace};
 ghost use Rattle.gier_exec.specs.Reading.{tracks_for};
 ghost use Rattle.gier_exec.specs.Registers.{begun_at};
+ghost use Rattle.gier_exec.specs.Rows.{code_in, regs_of};
+ghost use Rattle.gier_exec.specs.Turning.{IsRest};
 ghost use Rattle.gier_runner.specs.State.{report_of, Begun, Agrees};
 ghost use Rattle.gier_runner.specs.Running.{OnlyReads, devices};
+ghost use Rattle.gier_runner.specs.Live.{live_of};
+ghost use Rattle.gier_runner.specs.FlatRun.{HasRead, Reports, flat_ending, unread, read_up};
 ghost use Rattle.gier_runner.specs.declared.ending.Ending.TheVariants.{Read, Write, Drum as DrumFailed};
 
 use crate::orders::obey;
@@ -80,9 +89,12 @@ impl Runner {
 
     /// Runs a compiled program from the drum, on the data of a source, and prints to a sink.
     ///
-    /// Each run begins with empty places and frames, whatever ran before. `Read`, `Write` and `Drum` come only where that
-    /// device's count of faults rose. The drum is only read. The first order's address is below the number of words, which
-    /// is at most 2^24, and the program's tracks lie in the drum's room.
+    /// Each run begins with empty places and frames, whatever ran before. Where the drum tells its tracks, the run is the
+    /// flat run of the program's words there, on the data taken and whatever could stand behind them: it reads, prints and
+    /// takes the same, and ends alike, in the same place, with the same steps, words and activations. Where a device failed,
+    /// what was read, printed and taken is the first of that. `Read`, `Write` and `Drum` come only where that device's count
+    /// of faults rose. The drum is only read. The first order's address is below the number of words, which is at most 2^24,
+    /// and the program's tracks lie in the drum's room.
     pub fn run<D: Drum, S: Source, K: Sink>(
         &mut self,
         object: &Object,
@@ -95,6 +107,16 @@ impl Runner {
         requires in_room { object.now.first_track + tracks_for object.now.words ≤ D.room drum.old }
         ensures settings { self.new.settings ≡ self.old.settings }
         ensures agrees { Agrees self.new }
+        ensures flat { (tracks : List (List ℕ)) → D.tracks drum.old ≡ Some tracks
+            → (read put taken : List ℕ) × (ended : Bool) × HasRead object.now read self.new (D.journal drum.old) (D.journal drum.new)
+            × Puts (K.holds out.old) put (K.holds out.new) × Takes (unread (S.left input.old)) taken (read_up (S.left input.new) (length taken) ended)
+            × ((rest : List ℕ) → IsRest ended rest → Reports (flat_ending result) self.new read put rest
+            (flat (code_in tracks object.now) object.now.start (taken ++ rest) self.old.settings.steps self.old.settings.stack)) }
+        ensures told { (tracks : List (List ℕ)) (bytes : List ℕ) → D.tracks drum.old ≡ Some tracks → S.left input.old ≡ Some bytes
+            → (read put taken rest : List ℕ) × HasRead object.now read self.new (D.journal drum.old) (D.journal drum.new)
+            × Puts (K.holds out.old) put (K.holds out.new) × (take limit bytes ≡ taken ++ rest) × (S.left input.new ≡ Some (drop (length taken) bytes))
+            × Reports (flat_ending result) self.new read put rest
+            (flat (code_in tracks object.now) object.now.start (take limit bytes) self.old.settings.steps self.old.settings.stack) }
         ensures stop { self.new.machine.place < object.now.words }
         ensures trace_limit { self.new.trace.limit ≡ self.old.trace.limit }
         ensures trace_tracks { self.new.trace.tracks ≡ self.old.trace.tracks }
@@ -147,9 +169,10 @@ impl Runner {
         self.machine.place()
     }
 
-    /// The frames that the last run left.
+    /// The frames that the last run left, with the activations that were live where the flat run stops.
     pub fn frames(&self) -> &Frames
-        ensures { result.now ≡ self.now.frames }
+        ensures value { result.now ≡ self.now.frames }
+        ensures live { (rest : List ℕ) → live_in (regs_of self.now.machine self.now.frames rest) ≡ map live_of (activations self.now.frames) }
     {
         &self.frames
     }
@@ -187,6 +210,7 @@ fn open_with(alloc: Global, settings: Settings, trace: Trace) -> Result<Runner, 
     requires most { settings.places ≤ 64 }
     requires stack { settings.stack < 2 ^ 24 }
     requires tracks { AreTracks trace }
+    requires noted { HasNoted trace [] }
     ensures begun { IfOk result (λ runner. Begun settings 0 runner) }
     ensures trace { IfOk result (λ runner. runner.trace ≡ trace) }
 {

@@ -1,7 +1,10 @@
-use Rattle.std.proofs.Common.{◌≡◌, ◌<◌}
-use Rattle.gier_library.specs.Seen.{source_of}
+use Rattle.std.proofs.Common.{◌≡◌, ◌<◌, length}
+use Rattle.gier_library.specs.Seen.{source_of, stand_of}
 use Rattle.gier_exec.specs.Registers.{measure}
+use Rattle.gier_exec.specs.Reading.{seen}
 use Rattle.gier_runner.specs.Running.{Counted, OnlyReads, KeepsSizes, devices, parts}
+use Rattle.gier_runner.proofs.Turns.{now}
+use Rattle.gier_runner.proofs.Following.{GoesFlat}
 use Rattle.gier_runner.proofs.orders.obey.Given as goal
 
 abbrev pub invariant-loop-ending : goal.invariant-loop-ending
@@ -10,6 +13,9 @@ invariant-loop-ending g l = (l.m.place < l.object.words) × Counted l.object.wor
     × OnlyReads (devices g.D.Drum.room g.D.Drum.tracks g.D.Drum.journal g.D.Drum.faults g.S.Source.faults g.K.Sink.faults l.initial.drum (source_of l.initial.input) l.initial.out)
     (devices g.D.Drum.room g.D.Drum.tracks g.D.Drum.journal g.D.Drum.faults g.S.Source.faults g.K.Sink.faults l.drum (source_of l.input) l.out)
     × (l.input.source.ghost_name ≡ l.initial.input.source.ghost_name)
+    × GoesFlat (length l.initial.frames.words) l.object
+    (now (seen g.D.Drum.room g.D.Drum.tracks g.D.Drum.journal g.D.Drum.faults l.initial.drum l.initial.places l.initial.recent l.initial.trace) (g.K.Sink.holds l.initial.out) (stand_of g.S.Source.left l.initial.input) l.initial.m l.initial.frames)
+    (now (seen g.D.Drum.room g.D.Drum.tracks g.D.Drum.journal g.D.Drum.faults l.drum l.places l.recent l.trace) (g.K.Sink.holds l.out) (stand_of g.S.Source.left l.input) l.m l.frames)
 
 abbrev pub decreases-loop-ending : goal.decreases-loop-ending
 decreases-loop-ending g l = measure l.object.words l.m
