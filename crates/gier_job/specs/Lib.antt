@@ -7,3 +7,6 @@ pub mod Checked
 pub mod RunTails
 pub mod Reply
 pub mod ReplyExamples
+pub mod Mortem
+pub mod Behind
+pub mod Ran

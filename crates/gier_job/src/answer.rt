@@ -1,11 +1,13 @@
 // The top call: the words are read, all room is taken, and the work is done.
-ghost use Rattle.std.specs.Prelude.{◌≡◌, ◌≢◌, ◌≤◌, [], ℕ, map, true, is_some, IfOk};
+ghost use Rattle.std.specs.Prelude.{◌≡◌, ◌≢◌, ◌≤◌, [], ℕ, List, map, true, false, is_some, Some, IfOk};
 ghost use Rattle.std.specs.String.{string_bytes};
 ghost use Rattle.gier_word.specs.Cause.{HasRisen};
 ghost use Rattle.gier_areas.specs.Areas.{object_tracks, longest};
 ghost use Rattle.gier_job.specs.Checked.{Prints, PrintsErrors, TakesFor, IsNotSpoilt};
 ghost use Rattle.gier_job.specs.Command.{IsCommand, IsFew, IsWithin, IsFirstWrong};
 ghost use Rattle.gier_job.specs.Answer.{Refuses};
+ghost use Rattle.gier_job.specs.RunTails.{most_changes};
+ghost use Rattle.gier_job.specs.Ran.{IsRunEnd, HasRun};
 ghost use Rattle.gier_job.specs.declared.command.Command.{Command};
 ghost use Rattle.gier_job.specs.declared.status.Status.TheVariants.{Errors, Words, Tape, Printer, Drum as DrumStatus, Memory};
 
@@ -52,6 +54,12 @@ pub fn gier<S: Source, K: Sink, D: Drum>(
     ensures errors { (command : Command) → IsCommand (map string_bytes words.now) command → result ≡ Errors →
         PrintsErrors (K.holds out.old) (K.holds out.new) × TakesFor command.sample Errors (S.left tape.old) (S.left tape.new) }
 
+    // Where the devices tell what they hold, a run that no device stopped prints what the flat run of its object prints, and
+    // then the tails. Which lines a post-mortem names isn't said.
+    ensures runs { (command : Command) (tracks : List (List ℕ)) (all : List ℕ) → IsCommand (map string_bytes words.now) command → command.check ≡ false →
+        D.tracks drum.new ≡ Some tracks → S.left tape.old ≡ Some all → IsRunEnd result →
+        HasRun tracks command most_changes (S.left tape.old) result (K.holds out.old) (K.holds out.new) (D.journal drum.new) }
+
     // A device is named only where it failed in this call.
     ensures tape_fault { result ≡ Tape → HasRisen (S.faults tape.old) (S.faults tape.new) }
     ensures printer_fault { result ≡ Printer → HasRisen (K.faults out.old) (K.faults out.new) }
@@ -83,6 +91,8 @@ fn obey<S: Source, K: Sink, D: Drum>(
     ensures sound { command.now.check ≡ true → is_some (D.tracks drum.old) ≡ true → IsNotSpoilt result }
     ensures errors { result ≡ Errors → PrintsErrors (K.holds out.old) (K.holds out.new) }
     ensures erring { result ≡ Errors → TakesFor command.now.sample Errors (S.left tape.old) (S.left tape.new) }
+    ensures runs { (tracks : List (List ℕ)) (all : List ℕ) → command.now.check ≡ false → D.tracks drum.new ≡ Some tracks → S.left tape.old ≡ Some all
+        → IsRunEnd result → HasRun tracks command.now most_changes (S.left tape.old) result (K.holds out.old) (K.holds out.new) (D.journal drum.new) }
     ensures tape_fault { result ≡ Tape → HasRisen (S.faults tape.old) (S.faults tape.new) }
     ensures printer_fault { result ≡ Printer → HasRisen (K.faults out.old) (K.faults out.new) }
     ensures drum_fault { result ≡ DrumStatus → HasRisen (D.faults drum.old) (D.faults drum.new) }
@@ -109,6 +119,7 @@ fn runner_for(alloc: Global, command: &Command) -> Result<Runner, NoMemory>
     requires within { IsWithin command.now.settings }
     ensures settings { IfOk result (λ runner. runner.settings ≡ command.now.settings) }
     ensures traced { IfOk result (λ runner. command.now.best ≡ true → runner.trace.tracks ≡ object_tracks longest) }
+    ensures changes { IfOk result (λ runner. command.now.best ≡ true → runner.trace.limit ≡ most_changes) }
 {
     if command.best {
         return Runner::open_traced(alloc, command.settings, object_tracks());

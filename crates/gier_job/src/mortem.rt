@@ -1,8 +1,12 @@
 // The tails that tell where a run stopped and which activations were live then. The lines are found by gier_mortem.
-ghost use Rattle.std.specs.Prelude.{◌≡◌, ◌≤◌, ◌<◌, ◌+◌, ℕ, length, slice_index, IfErr, IsErrOf};
+ghost use Rattle.std.specs.Prelude.{◌≡◌, ◌≤◌, ◌<◌, ◌+◌, ℕ, [], length, map, slice_index, OnOk, IfErr, IsErrOf};
 ghost use Rattle.gier_word.specs.Cause.{HasCause, HasRisen};
-ghost use Rattle.gier_areas.specs.Areas.{longest, all_tracks, capacity_of};
+ghost use Rattle.gier_text.specs.View.{KeepsTracks};
+ghost use Rattle.gier_areas.specs.Areas.{longest, all_tracks, capacity_of, first_of, object_first};
 ghost use Rattle.gier_frames.specs.Stop.{activations};
+ghost use Rattle.gier_io.specs.Device.{Puts};
+ghost use Rattle.gier_runner.specs.Live.{shape_of, live_of};
+ghost use Rattle.gier_job.specs.Mortem.{line_text, shape_text, live_text, untold_text, PutsLives, PutsMortem};
 ghost use Rattle.gier_job.specs.Status.{IsStop};
 ghost use Rattle.gier_job.specs.declared.status.Status.TheVariants.{Printer, Drum as DrumStatus};
 
@@ -35,6 +39,8 @@ pub(crate) fn put_mortem<K: Sink, D: Drum>(
 ) -> Result<(), Status>
     requires text { slice_index object.now.lengths 6 ≤ capacity_of longest }
     requires room { all_tracks longest ≤ D.room drum.old }
+    ensures tracks { KeepsTracks (first_of 7) object_first (D.tracks drum.old) (D.tracks drum.new) }
+    ensures put { OnOk result (PutsMortem [] (map live_of (activations runner.now.frames)) (K.holds out.old) (K.holds out.new)) }
     ensures room { D.room drum.new ≡ D.room drum.old }
     ensures stop { IfErr result IsStop }
     ensures printer_fault { IsErrOf result Printer → HasRisen (K.faults out.old) (K.faults out.new) }
@@ -73,6 +79,7 @@ fn entry_of(activation: Activation) -> u32 {
 fn find_lines<D: Drum>(lines: &mut Lines, object: &Object, drum: &mut D) -> Result<(), Status>
     requires text { slice_index object.now.lengths 6 ≤ capacity_of longest }
     requires room { all_tracks longest ≤ D.room drum.old }
+    ensures tracks { KeepsTracks (first_of 7) object_first (D.tracks drum.old) (D.tracks drum.new) }
     ensures asked { length lines.new.asked.items ≡ length lines.old.asked.items }
     ensures room { D.room drum.new ≡ D.room drum.old }
     ensures stop { IfErr result IsStop }
@@ -91,6 +98,7 @@ fn find_lines<D: Drum>(lines: &mut Lines, object: &Object, drum: &mut D) -> Resu
 fn put_stop<K: Sink>(lines: &Lines, frames: &Frames, out: &mut K) -> Result<(), Failed>
     requires some { 0 < length lines.now.asked.items }
     requires all { (at : ℕ) → at < 64 → at < length (activations frames.now) → at + 1 < length lines.now.asked.items }
+    ensures put { OnOk result (PutsMortem [] (map live_of (activations frames.now)) (K.holds out.old) (K.holds out.new)) }
     ensures cause { HasCause (K.faults out.old) (K.faults out.new) result }
 {
     match put_line(b"\n*** mortem line ", lines.line(0), out) {
@@ -100,7 +108,9 @@ fn put_stop<K: Sink>(lines: &Lines, frames: &Frames, out: &mut K) -> Result<(), 
 }
 
 // A number behind a text, and the end of the line.
+#[tactic(auto, using(gier_front::proofs::Prints::puts_more))]
 fn put_line<K: Sink>(text: &[u8], number: u32, out: &mut K) -> Result<(), Failed>
+    ensures put { OnOk result (Puts (K.holds out.old) (line_text text.now number) (K.holds out.new)) }
     ensures cause { HasCause (K.faults out.old) (K.faults out.new) result }
 {
     match put_named(text, u128::from(number), out) {
@@ -111,6 +121,7 @@ fn put_line<K: Sink>(text: &[u8], number: u32, out: &mut K) -> Result<(), Failed
 
 fn put_activations<K: Sink>(lines: &Lines, frames: &Frames, out: &mut K) -> Result<(), Failed>
     requires all { (at : ℕ) → at < 64 → at < length (activations frames.now) → at + 1 < length lines.now.asked.items }
+    ensures put { OnOk result (PutsLives (map live_of (activations frames.now)) (K.holds out.old) (K.holds out.new)) }
     ensures cause { HasCause (K.faults out.old) (K.faults out.new) result }
 {
     for at in 0..MOST_TOLD {
@@ -125,7 +136,9 @@ fn put_activations<K: Sink>(lines: &Lines, frames: &Frames, out: &mut K) -> Resu
     put_rest(frames.count(), out)
 }
 
+#[tactic(auto, using(gier_front::proofs::Prints::puts_more))]
 fn put_activation<K: Sink>(activation: Activation, line: u32, out: &mut K) -> Result<(), Failed>
+    ensures put { OnOk result (Puts (K.holds out.old) (live_text (live_of activation) line) (K.holds out.new)) }
     ensures cause { HasCause (K.faults out.old) (K.faults out.new) result }
 {
     match put_shape(activation.shape, line, out) {
@@ -136,6 +149,7 @@ fn put_activation<K: Sink>(activation: Activation, line: u32, out: &mut K) -> Re
 
 // What the activation is of, with the line by which it was entered where there is one.
 fn put_shape<K: Sink>(shape: Shape, line: u32, out: &mut K) -> Result<(), Failed>
+    ensures put { OnOk result (Puts (K.holds out.old) (shape_text (shape_of shape) line) (K.holds out.new)) }
     ensures cause { HasCause (K.faults out.old) (K.faults out.new) result }
 {
     match shape {
@@ -147,7 +161,9 @@ fn put_shape<K: Sink>(shape: Shape, line: u32, out: &mut K) -> Result<(), Failed
 }
 
 // How many activations were not told, where there are more.
+#[tactic(auto, using(gier_front::proofs::Prints::puts_none, gier_front::proofs::Prints::puts_more))]
 fn put_rest<K: Sink>(count: u32, out: &mut K) -> Result<(), Failed>
+    ensures put { OnOk result (Puts (K.holds out.old) (untold_text count) (K.holds out.new)) }
     ensures cause { HasCause (K.faults out.old) (K.faults out.new) result }
 {
     if count <= MOST_TOLD {

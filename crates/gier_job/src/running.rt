@@ -1,13 +1,28 @@
 // Runs a checked program: its object is made, run, and what the command asks for is printed behind what the program printed.
-ghost use Rattle.std.specs.Prelude.{◌≡◌, ◌≢◌, ◌≤◌, ◌<◌, ◌+◌, ◌^◌, [], IsOk, IsErr, IsErrOf, IfErr, IfOk, IfSome, length, slice_index, true};
+ghost use Rattle.std.specs.Prelude.{◌≡◌, ◌≢◌, ◌≤◌, ◌<◌, ◌+◌, ◌^◌, ◌++◌, ℕ, List, [], IsOk, IsErr, IsErrOf, IfErr, IfOk, IfSome, OnOk, Some, length, map, take, slice_index, true, false};
 ghost use Rattle.gier_word.specs.Cause.{HasCause, HasRisen};
 ghost use Rattle.gier_text.specs.Kept.{kept};
-ghost use Rattle.gier_best.specs.Traced.{AreTracks};
+ghost use Rattle.gier_io.specs.Device.{Puts};
+ghost use Rattle.gier_order.specs.Counts.{StandsFor as Counts};
+ghost use Rattle.gier_best.specs.Traced.{HasNoted, AreTracks};
+ghost use Rattle.gier_library.specs.Data.{limit};
+ghost use Rattle.gier_order.specs.Flat.Run.{flat};
+ghost use Rattle.gier_order.specs.declared.object.Object.{Object};
+ghost use Rattle.gier_exec.specs.Rows.{code_in};
+ghost use Rattle.gier_back.specs.Compiled.{IsObject};
+ghost use Rattle.gier_runner.specs.State.{report_of};
 ghost use Rattle.gier_exec.specs.Reading.{tracks_for};
-ghost use Rattle.gier_areas.specs.Areas.{longest, all_tracks, object_tracks, capacity_of};
+ghost use Rattle.gier_text.specs.View.{KeepsTracks};
+ghost use Rattle.gier_areas.specs.Areas.{longest, all_tracks, object_tracks, capacity_of, first_of, object_first};
 ghost use Rattle.gier_front.specs.Fronted.{IsFronted};
 ghost use Rattle.gier_job.specs.Command.{IsWithin};
 ghost use Rattle.gier_job.specs.Status.{of_ending, IsOfRun, IsStop};
+ghost use Rattle.gier_job.specs.RunTails.{table_from, most_places};
+ghost use Rattle.gier_job.specs.Ran.{IsRunEnd, IsAnswered};
+ghost use Rattle.gier_frames.specs.Stop.{activations};
+ghost use Rattle.gier_runner.specs.Live.{live_of};
+ghost use Rattle.gier_job.specs.Mortem.{PutsTails};
+ghost use Rattle.gier_job.specs.Behind.{end_tail, taken_tail, misses_tail, best_plan_tail, cost_tails, count_tails, run_tails, has_mortem};
 ghost use Rattle.gier_job.specs.declared.status.Status.TheVariants.{Tape, Printer, Drum as DrumStatus};
 
 use crate::Command;
@@ -42,8 +57,13 @@ pub(crate) fn run_fronted<S: Source, K: Sink, D: Drum>(
     requires limit { (kept tables.old).limit ≡ longest }
     requires no_faults { (kept tables.old).faults ≡ [] }
     requires room { all_tracks longest ≤ D.room drum.old }
+    requires settings { runner.old.settings ≡ command.now.settings }
     requires traced { command.now.best ≡ true → runner.old.trace.tracks ≡ object_tracks longest }
     ensures of_run { IsOfRun result }
+    ensures runs { (tracks : List (List ℕ)) (bytes : List ℕ) → D.tracks drum.new ≡ Some tracks → S.left tape.old ≡ Some bytes → IsRunEnd result
+        → (object : Object) × IsObject fronted object × IsAnswered command.now runner.old.trace.limit object
+        (flat (code_in tracks object) object.start (take limit bytes) command.now.settings.steps command.now.settings.stack)
+        result (K.holds out.old) (K.holds out.new) (D.journal drum.new) }
     ensures limit { (kept tables.new).limit ≡ longest }
     ensures room { D.room drum.new ≡ D.room drum.old }
     ensures settings { runner.new.settings ≡ runner.old.settings }
@@ -80,6 +100,11 @@ fn conclude<K: Sink, D: Drum>(
     requires noted { command.now.best ≡ true → AreTracks runner.old.trace }
     requires text { slice_index object.now.lengths 6 ≤ capacity_of longest }
     requires room { all_tracks longest ≤ D.room drum.old }
+    ensures put { (tracks notes : List ℕ) → Counts runner.old.recent tracks → HasNoted runner.old.trace notes → OnOk result (PutsTails (has_mortem command.now.mortem ending)
+        (run_tails ending command.now (report_of runner.old) runner.old.trace.limit tracks notes) (map live_of (activations runner.old.frames))
+        (K.holds out.old) (K.holds out.new)) }
+    ensures tracks { KeepsTracks (first_of 7) object_first (D.tracks drum.old) (D.tracks drum.new) }
+    ensures untouched { command.now.mortem ≡ false → drum.new ≡ drum.old }
     ensures stop { IfErr result IsStop }
     ensures room { D.room drum.new ≡ D.room drum.old }
     ensures settings { runner.new.settings ≡ runner.old.settings }
@@ -106,6 +131,7 @@ fn conclude<K: Sink, D: Drum>(
 }
 
 // How the run ended, and what is asked for of it.
+#[tactic(auto, using(gier_front::proofs::Prints::puts_more))]
 fn put_stopped<K: Sink>(
     command: &Command,
     ending: Ending,
@@ -116,6 +142,9 @@ fn put_stopped<K: Sink>(
     requires noted { command.now.best ≡ true → AreTracks runner.old.trace }
     ensures settings { runner.new.settings ≡ runner.old.settings }
     ensures traces { runner.new.trace.tracks ≡ runner.old.trace.tracks }
+    ensures frames { runner.new.frames ≡ runner.old.frames }
+    ensures put { (tracks notes : List ℕ) → Counts runner.old.recent tracks → HasNoted runner.old.trace notes →
+        OnOk result (Puts (K.holds out.old) (end_tail ending ++ count_tails command.now (report_of runner.old) runner.old.trace.limit tracks notes) (K.holds out.new)) }
     ensures cause { HasCause (K.faults out.old) (K.faults out.new) result }
 {
     match put_ending(ending, out) {
@@ -125,69 +154,108 @@ fn put_stopped<K: Sink>(
 }
 
 // The tail that names the ending; there is none for a run that came to its end.
+#[tactic(auto, using(gier_front::proofs::Prints::puts_none))]
 fn put_ending<K: Sink>(ending: Ending, out: &mut K) -> Result<(), Failed>
+    ensures put { OnOk result (Puts (K.holds out.old) (end_tail ending) (K.holds out.new)) }
     ensures cause { HasCause (K.faults out.old) (K.faults out.new) result }
 {
     match ending {
         Ending::Alarm(alarm) => put_alarm(alarm.name().as_bytes(), out),
         Ending::Steps => put_steps(out),
-        _ => Ok(()),
+        Ending::Ended | Ending::Read | Ending::Write | Ending::Drum | Ending::Spoilt(_) => Ok(()),
     }
 }
 
 // The tails that are asked for of every run that no device stopped.
+#[tactic(auto, using(gier_front::proofs::Prints::puts_more))]
 fn put_counts<K: Sink>(command: &Command, runner: &mut Runner, out: &mut K) -> Result<(), Failed>
     requires within { IsWithin command.now.settings }
     requires noted { command.now.best ≡ true → AreTracks runner.old.trace }
     ensures settings { runner.new.settings ≡ runner.old.settings }
     ensures traces { runner.new.trace.tracks ≡ runner.old.trace.tracks }
+    ensures frames { runner.new.frames ≡ runner.old.frames }
+    ensures put { (tracks notes : List ℕ) → Counts runner.old.recent tracks → HasNoted runner.old.trace notes →
+        OnOk result (Puts (K.holds out.old) (count_tails command.now (report_of runner.old) runner.old.trace.limit tracks notes) (K.holds out.new)) }
     ensures cause { HasCause (K.faults out.old) (K.faults out.new) result }
 {
-    if command.report {
-        match put_steps_taken(runner, out) {
-            Ok(()) => {}
-            Err(failed) => return Err(failed),
-        }
+    match put_taken(command, runner, out) {
+        Ok(()) => put_costs(command, runner, out),
+        Err(failed) => Err(failed),
     }
-    if command.table {
-        match put_table(&misses(runner), out) {
-            Ok(()) => {}
-            Err(failed) => return Err(failed),
-        }
-    }
-    if command.best {
-        return put_cheapest(command.settings.places, runner, out);
-    }
-    Ok(())
 }
 
-fn put_steps_taken<K: Sink>(runner: &Runner, out: &mut K) -> Result<(), Failed>
+// The report, where it is asked for.
+#[tactic(auto, using(gier_front::proofs::Prints::puts_none))]
+fn put_taken<K: Sink>(command: &Command, runner: &Runner, out: &mut K) -> Result<(), Failed>
+    ensures put { OnOk result (Puts (K.holds out.old) (taken_tail command.now.report (report_of runner.now)) (K.holds out.new)) }
     ensures cause { HasCause (K.faults out.old) (K.faults out.new) result }
 {
+    if !command.report {
+        return Ok(());
+    }
     let report = runner.report();
     put_report(report.steps, report.transfers, report.words, out)
 }
 
+// What the references of the run cost with other numbers of places, and by the cheapest plan.
+#[tactic(auto, using(gier_front::proofs::Prints::puts_more))]
+fn put_costs<K: Sink>(command: &Command, runner: &mut Runner, out: &mut K) -> Result<(), Failed>
+    requires within { IsWithin command.now.settings }
+    requires noted { command.now.best ≡ true → AreTracks runner.old.trace }
+    ensures settings { runner.new.settings ≡ runner.old.settings }
+    ensures traces { runner.new.trace.tracks ≡ runner.old.trace.tracks }
+    ensures frames { runner.new.frames ≡ runner.old.frames }
+    ensures put { (tracks notes : List ℕ) → Counts runner.old.recent tracks → HasNoted runner.old.trace notes →
+        OnOk result (Puts (K.holds out.old) (cost_tails command.now runner.old.trace.limit tracks notes) (K.holds out.new)) }
+    ensures cause { HasCause (K.faults out.old) (K.faults out.new) result }
+{
+    match put_misses(command, runner, out) {
+        Ok(()) => put_cheapest(command, runner, out),
+        Err(failed) => Err(failed),
+    }
+}
+
+// The table of misses, where it is asked for.
+#[tactic(auto, using(gier_front::proofs::Prints::puts_none))]
+fn put_misses<K: Sink>(command: &Command, runner: &Runner, out: &mut K) -> Result<(), Failed>
+    ensures put { (tracks : List ℕ) → Counts runner.now.recent tracks →
+        OnOk result (Puts (K.holds out.old) (misses_tail command.now.table tracks) (K.holds out.new)) }
+    ensures cause { HasCause (K.faults out.old) (K.faults out.new) result }
+{
+    if !command.table {
+        return Ok(());
+    }
+    put_table(&misses(runner), out)
+}
+
 // The misses for 1 place and more.
-fn misses(runner: &Runner) -> [u128; MOST_PLACES] {
+fn misses(runner: &Runner) -> [u128; MOST_PLACES]
+    ensures { (tracks : List ℕ) → Counts runner.now.recent tracks → result ≡ table_from tracks most_places 1 }
+{
     let mut misses = [0; MOST_PLACES];
-    for (at, number) in misses.iter_mut().enumerate() {
-        *number = runner.misses(at as u8 + 1);
+    for at in 0..MOST_PLACES {
+        misses[at] = runner.misses(at as u8 + 1);
     }
     misses
 }
 
-// The cheapest plan for the references of the run.
-fn put_cheapest<K: Sink>(places: u8, runner: &mut Runner, out: &mut K) -> Result<(), Failed>
-    requires least { 1 ≤ places }
-    requires most { places ≤ 64 }
-    requires noted { AreTracks runner.old.trace }
+// The cheapest plan for the references of the run, where it is asked for.
+#[tactic(auto, using(gier_front::proofs::Prints::puts_none))]
+fn put_cheapest<K: Sink>(command: &Command, runner: &mut Runner, out: &mut K) -> Result<(), Failed>
+    requires within { IsWithin command.now.settings }
+    requires noted { command.now.best ≡ true → AreTracks runner.old.trace }
     ensures settings { runner.new.settings ≡ runner.old.settings }
     ensures traces { runner.new.trace.tracks ≡ runner.old.trace.tracks }
+    ensures frames { runner.new.frames ≡ runner.old.frames }
+    ensures put { (notes : List ℕ) → HasNoted runner.old.trace notes →
+        OnOk result (Puts (K.holds out.old) (best_plan_tail command.now.best runner.old.trace.limit notes command.now.settings.places) (K.holds out.new)) }
     ensures cause { HasCause (K.faults out.old) (K.faults out.new) result }
 {
+    if !command.best {
+        return Ok(());
+    }
     let trace = runner.trace();
-    match trace.best(places) {
+    match trace.best(command.settings.places) {
         Some(cost) => put_best(cost, trace, out),
         None => put_no_plan(out),
     }

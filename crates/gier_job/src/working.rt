@@ -1,5 +1,5 @@
 // The work on one tape, for which all room was taken before: the program is checked, and run where that is asked for.
-ghost use Rattle.std.specs.Prelude.{◌≡◌, ◌≢◌, ◌≤◌, ◌<◌, [], OnOk, IfOk, IsErrOf, length, true, is_some, ℕ, List, Option};
+ghost use Rattle.std.specs.Prelude.{◌≡◌, ◌≢◌, ◌≤◌, ◌<◌, [], OnOk, IfOk, IsErr, IsErrOf, length, true, false, is_some, ℕ, List, Option, Some};
 ghost use Rattle.gier_word.specs.Cause.{HasRisen};
 ghost use Rattle.gier_text.specs.Kept.{kept};
 ghost use Rattle.gier_front.specs.declared.stop.FrontStop.TheVariants.{Errors as HasErrors, Read, Drum as DrumStop};
@@ -8,6 +8,7 @@ ghost use Rattle.gier_front.specs.Fronted.{IsFronted};
 ghost use Rattle.gier_front.specs.Stops.{NotSpoilt};
 ghost use Rattle.gier_job.specs.Command.{IsFew, IsWithin};
 ghost use Rattle.gier_job.specs.Checked.{Prints, PrintsErrors, TakesFor, FoundFor, IsNotSpoilt};
+ghost use Rattle.gier_job.specs.Ran.{IsRunEnd, HasRun};
 ghost use Rattle.gier_job.specs.declared.status.Status.TheVariants.{Errors, Words, Tape, Printer, Drum as DrumStatus, Memory};
 
 use crate::Command;
@@ -57,6 +58,11 @@ pub fn work<S: Source, K: Sink, D: Drum>(
     // `run` prints the errors too, and nothing is run then.
     ensures errors { result ≡ Errors → PrintsErrors (K.holds out.old) (K.holds out.new) }
     ensures refused { result ≡ Errors → TakesFor command.now.sample Errors (S.left tape.old) (S.left tape.new) }
+
+    // Where the devices tell what they hold, a run that no device stopped prints what the flat run of its object prints, and
+    // then the tails. Which lines a post-mortem names isn't said.
+    ensures runs { (tracks : List (List ℕ)) (all : List ℕ) → command.now.check ≡ false → D.tracks drum.new ≡ Some tracks → S.left tape.old ≡ Some all
+        → IsRunEnd result → HasRun tracks command.now runner.old.trace.limit (S.left tape.old) result (K.holds out.old) (K.holds out.new) (D.journal drum.new) }
 
     // A device is named only where it failed in this call.
     ensures tape_fault { result ≡ Tape → HasRisen (S.faults tape.old) (S.faults tape.new) }
@@ -111,6 +117,7 @@ fn told<K: Sink>(found: Result<Fronted, FrontStop>, tables: &Tables, out: &mut K
     ensures not_words { result ≢ Words }
     ensures not_memory { result ≢ Memory }
     ensures prints { Prints result (K.holds out.old) (K.holds out.new) }
+    ensures no_run { IsErr found → IsRunEnd result → ⊥ }
     ensures takes { (sample : Option ℕ) (old new : Option (List ℕ)) → FoundFor sample found old new → TakesFor sample result old new }
     ensures tape { result ≡ Tape → IsErrOf found Read }
     ensures drum { result ≡ DrumStatus → IsErrOf found DrumStop }

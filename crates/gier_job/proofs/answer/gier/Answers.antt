@@ -1,7 +1,9 @@
-use Rattle.std.proofs.Common.{◌≡◌, ℕ, map, subst, sym, refl, true}
+use Rattle.std.proofs.Common.{◌≡◌, ℕ, map, subst, sym, refl, true, false}
 use Rattle.std.specs.String.{string_bytes}
 use Rattle.gier_job.specs.Answer.{Refuses}
 use Rattle.gier_job.specs.Checked.{TakesFor}
+use Rattle.gier_job.specs.RunTails.{most_changes}
+use Rattle.gier_job.specs.Ran.{HasRun}
 use Rattle.gier_job.specs.declared.command.Command.{Command}
 use Rattle.gier_job.specs.declared.status.Status.TheVariants.{Errors}
 use Rattle.gier_job.proofs.Reading.{not_wrong, wrong_once}
@@ -36,3 +38,12 @@ returns-in-Err-clause-accepted g c = λ command is words. absurd (not_wrong (map
 
 pub returns-in-Err-clause-checks : goal.returns-in-Err-clause-checks
 returns-in-Err-clause-checks g c = λ command is check. absurd (not_wrong (map string_bytes c.args.words.now) command c.in-Err.number is c.in-Err.ensures.wrong)
+
+pub returns-in-Ok-clause-runs : goal.returns-in-Ok-clause-runs
+returns-in-Ok-clause-runs g c = λ command tracks all is check told left end.
+    let same : command ≡ c.in-Ok.command = c.in-Ok.ensures.only command is in
+    subst (λ (d : Command). HasRun tracks d most_changes (g.S.Source.left c.args.tape.now) c.obey.result (g.K.Sink.holds c.args.out.now) (g.K.Sink.holds c.obey.new.out) (g.D.Drum.journal c.obey.new.drum)) (sym same)
+    (c.obey.ensures.runs tracks all (subst (λ (d : Command). d.check ≡ false) same check) told left end)
+
+pub returns-in-Err-clause-runs : goal.returns-in-Err-clause-runs
+returns-in-Err-clause-runs g c = λ command tracks all is check told left end. absurd (not_wrong (map string_bytes c.args.words.now) command c.in-Err.number is c.in-Err.ensures.wrong)
