@@ -6,4 +6,5 @@ pub mod MemDrum
 pub mod FailingDrum
 pub mod ForgetfulDrum
 pub mod FileDrum
+pub mod FileWords
 pub mod Laws

@@ -2,20 +2,15 @@
 ghost use Rattle.std.specs.Prelude.{◌≡◌, ◌<◌, ◌≤◌, ◌^◌, ◌*◌, ◌+◌, None, OnOk, OnErr, IsOk, IsErr, IsSome, IsNone, IfErr, All, length, max};
 ghost use Rattle.gier_drum.specs.declared.drum.RoomFault.TheVariants.{Failed as DrumFailed};
 
+use crate::file_words::{decode, encode};
 use crate::{Drum, RoomFault};
 use gier_word::Failed;
 use std::fs::File;
 use std::io;
 use std::os::unix::fs::FileExt;
 
-// How many bytes a word takes.
-const WORD_BYTES: usize = 8;
-
 // How many bytes a track takes.
 const TRACK_BYTES: usize = 320;
-
-// Words are below this.
-const WORD_LIMIT: u64 = 1 << 40;
 
 /// A drum in a file.
 #[derive(Drop)]
@@ -57,48 +52,9 @@ fn offset(track: u32) -> u64 {
     u64::from(track) * TRACK_BYTES as u64
 }
 
-fn word_of(bytes: &[u8; 320], place: usize) -> u64
-    requires { place < 40 }
-{
-    let at = place * WORD_BYTES;
-    u64::from_le_bytes([
-        bytes[at],
-        bytes[at + 1],
-        bytes[at + 2],
-        bytes[at + 3],
-        bytes[at + 4],
-        bytes[at + 5],
-        bytes[at + 6],
-        bytes[at + 7],
-    ])
-}
-
-// The words in these bytes, or a refusal where one is none.
-fn decode(bytes: &[u8; 320], into: &mut [u64; 40]) -> Result<(), Failed>
-    ensures { OnOk result (All (λ word. word < 2 ^ 40) into.new) }
-{
-    for place in 0..40 {
-        let word = word_of(bytes, place);
-        if word >= WORD_LIMIT {
-            return Err(Failed);
-        }
-        into[place] = word;
-    }
-    Ok(())
-}
-
-fn encode(words: &[u64; 40], bytes: &mut [u8; 320]) {
-    for place in 0..40 {
-        let at = place * WORD_BYTES;
-        let word = words[place].to_le_bytes();
-        for byte in 0..WORD_BYTES {
-            bytes[at + byte] = word[byte];
-        }
-    }
-}
-
 fn read_track(file: &Option<File>, track: u32, into: &mut [u64; 40]) -> Result<(), Failed>
-    ensures { OnOk result (All (λ word. word < 2 ^ 40) into.new) }
+    ensures words { OnOk result (All (λ word. word < 2 ^ 40) into.new) }
+    ensures no_file { IsNone file.now → IsErr result }
 {
     let Some(file) = file else {
         return Err(Failed);
@@ -110,7 +66,9 @@ fn read_track(file: &Option<File>, track: u32, into: &mut [u64; 40]) -> Result<(
     decode(&bytes, into)
 }
 
-fn write_track(file: &Option<File>, track: u32, from: &[u64; 40]) -> Result<(), Failed> {
+fn write_track(file: &Option<File>, track: u32, from: &[u64; 40]) -> Result<(), Failed>
+    ensures no_file { IsNone file.now → IsErr result }
+{
     let Some(file) = file else {
         return Err(Failed);
     };
@@ -172,6 +130,7 @@ impl Drum for FileDrum {
         requires { track < room_of self.old }
         ensures words { OnOk result (All (λ word. word < 2 ^ 40) into.new) }
         ensures room { room_of self.new ≡ room_of self.old }
+        ensures no_file { IsNone (file_of self.old) → IsErr result }
         ensures count { CountsFault (failed_of self.old) result (failed_of self.new) }
         ensures file { file_of self.new ≡ file_of self.old }
     {
@@ -186,6 +145,7 @@ impl Drum for FileDrum {
         requires in_room { track < room_of self.old }
         requires words { All (λ word. word < 2 ^ 40) from.now }
         ensures room { room_of self.new ≡ room_of self.old }
+        ensures no_file { IsNone (file_of self.old) → IsErr result }
         ensures count { CountsFault (failed_of self.old) result (failed_of self.new) }
         ensures file { file_of self.new ≡ file_of self.old }
     {

@@ -4,6 +4,7 @@
 mod drum;
 mod failing_drum;
 mod file_drum;
+mod file_words;
 mod forgetful_drum;
 mod journal;
 mod mem_drum;

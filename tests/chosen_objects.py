@@ -1,0 +1,111 @@
+"""The objects that tests/objects and tests/addresses run: of programs of the model's generator, and random ones. It runs nothing."""
+import os
+import random
+import subprocess
+import sys
+
+LARGEST = 1 << 40
+SIGNED = 1 << 39
+ORDERS = 55
+
+
+def load(folder):
+    sys.path.insert(0, os.path.abspath(folder))
+    import flat
+    import generate
+    import gier
+    import orders
+    return flat, generate, gier, orders
+
+
+def made(generate, seed, largest):
+    """A tape of the generator, without damages."""
+    chance = random.Random(seed)
+    words = ["size=%d" % chance.randint(4, largest), "hazard=%d" % chance.randint(0, 3), "spelling=any"]
+    return subprocess.run([sys.executable, generate.__file__, str(seed)] + words, capture_output=True, check=True).stdout
+
+
+def object_of(modules, seed, largest):
+    """The words and the data of a program, or None where it has errors."""
+    _, generate, gier, _ = modules
+    _, _, info = gier.answer(["run", "steps=0"], made(generate, seed, largest))
+    if "run" not in info:
+        return None
+    return list(info["run"].words), bytes(info["run"].data)
+
+
+def an_order(orders, chance, most):
+    """An order whose addresses are mostly small, so that much of what it names is there."""
+    number = chance.randint(1, ORDERS)
+    level = chance.choice([0, 0, 1, 1, 2, 3, chance.randint(0, 255)]) if orders.HAS_LEVEL[number] else 0
+    address = chance.choice([chance.randint(0, 12), chance.randint(0, most), chance.randint(0, (1 << 24) - 1)])
+    return orders.code(number, level, address if orders.HAS_ADDRESS[number] else 0)
+
+
+def hand_made(orders, chance):
+    """An object that begins with START, and goes on as it comes."""
+    count = chance.randint(1, 60)
+    words = [orders.code(1, chance.randint(0, 2), chance.randint(2, 9))]
+    for _ in range(count):
+        if chance.random() < 0.9:
+            words.append(an_order(orders, chance, count))
+        else:
+            words.append(chance.choice([0, chance.randint(0, 600), chance.randrange(LARGEST)]))
+    return words, bytes(chance.randint(0, 255) for _ in range(chance.randint(0, 6)))
+
+
+def changed(orders, chance, words):
+    """The same words but for a few."""
+    words = list(words)
+    for _ in range(chance.randint(1, 5)):
+        at = chance.randrange(len(words))
+        words[at] = chance.choice([an_order(orders, chance, len(words)), words[at] ^ (1 << chance.randint(0, 39)),
+                                   chance.randrange(LARGEST)])
+    return words
+
+
+def chosen(modules, kind, seed):
+    """Words, start, data, places, steps and stack of a run, or None where the seed gives none."""
+    chance = random.Random(-seed - 1)
+    start = 0
+    if kind == "random" and chance.random() < 0.6:
+        words, data = hand_made(modules[3], chance)
+        start = chance.choice([0, 0, 0, chance.randrange(len(words))])
+    else:
+        found = object_of(modules, seed, 20 if kind == "programs" else 6)
+        if found is None:
+            return None
+        words, data = found
+        if kind == "random":
+            words = changed(modules[3], chance, words)
+    stack = chance.choice([20, 60, 200, 1000, 20000])
+    return words, start, data, chance.randint(1, 64) if chance.random() < 0.5 else chance.randint(1, 4), chance.randint(0, 3000), stack
+
+
+def numbers_of(job):
+    words, start, data, places, steps, stack = job
+    signed = [word - LARGEST if word >= SIGNED else word for word in words]
+    return " ".join(str(number) for number in [len(words), start, places, steps, stack, len(data)] + signed + list(data))
+
+
+def run_of(flat, job):
+    """The model's run, with the addresses of the words of the object that it read."""
+    words, start, data, places, steps, stack = job
+    return flat.Flat(words, data, steps, stack, start, places, keep_refs=True, keep_misses=True).run()
+
+
+def lines_of(run, job):
+    """The lines that object_run has to print of the model's run."""
+    data = job[2]
+    ending = {"alarm": "alarm %s" % run.alarm, "spoilt": "spoilt %d %d" % (run.spoilt or (0, 0))}.get(run.ending, run.ending)
+    return [
+        "ending " + ending,
+        "steps %d" % run.steps,
+        "words %d" % run.greatest,
+        "stop %d" % run.place,
+        "misses" + "".join(" %d" % number for number in run.recent.table()),
+        "left %d" % (len(data) - run.taken),
+        "printed" + "".join(" %d" % byte for byte in run.out),
+        "tracks" + "".join(" %d" % track for track in run.recent.missed),
+        "frames" + "".join(" %s %d %d" % (shape.capitalize(), size, back) for shape, size, back in run.activations()),
+        "end"]
