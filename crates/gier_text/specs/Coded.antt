@@ -38,6 +38,10 @@ unfoldable pub symbols_of : Option (List (List ℕ)) → ℕ → ℕ → List �
 symbols_of None first loaded buffer count = None
 symbols_of (Some tracks) first loaded buffer count = Some (listed (symbol_at tracks first loaded buffer) count)
 
+-- the symbols on the tracks from this one on, where the tracks are told and hold the code of so many
+abbrev pub text_on : Option (List (List ℕ)) → (first count : ℕ) → Option (List Symbol)
+text_on tracks first count = told (symbols_of tracks first 0 [] count)
+
 unfoldable pub left_in : Option (List (List ℕ)) → ℕ → ℕ → List ℕ → ℕ → Way → ℕ → Option (List (Option Symbol))
 left_in None first loaded buffer count way unread = None
 left_in (Some tracks) first loaded buffer count way unread = Some (left_of way unread (listed (symbol_at tracks first loaded buffer) count))

@@ -1,5 +1,7 @@
--- The text of each kind of fault.
+-- The text of each kind of fault, and what the faults of the definition are called here.
 use Rattle.std.specs.Prelude.{ℕ, List, codes}
+use Rattle.gier_symbol.specs.Listing.{FaultAt, SymbolFault, WrongByte, WrongWord, OpenString, LargeNumber}
+use Rattle.gier_text.specs.declared.fault.Fault.{Fault}
 use Rattle.gier_text.specs.declared.fault.FaultKind.{FaultKind}
 use Rattle.gier_text.specs.declared.fault.FaultKind.TheVariants.{TooLong, Character, Word, Unclosed, Number, Structure, DeclaredTwice, NotDeclared, LocalInBound, NotFormal, SpecifiedTwice, NotSpecified, Level, ListTooLong, Value, Kind, Subscripts, ParameterCount, Parameter, Bound, ForElement, Condition, Branches, Designational, Assignment, Operand}
 
@@ -30,3 +32,17 @@ text_of_fault Branches = codes "branches"
 text_of_fault Designational = codes "designational"
 text_of_fault Assignment = codes "assignment"
 text_of_fault Operand = codes "operand"
+
+-- the kind of a fault of bytes or numbers
+abbrev pub called : SymbolFault → FaultKind
+called WrongByte = Character
+called WrongWord = Word
+called OpenString = Unclosed
+called LargeNumber = Number
+
+abbrev pub named : FaultAt SymbolFault → FaultAt FaultKind
+named fault = record { kind = called fault.kind; line = fault.line }
+
+-- a fault of the tables without its position
+abbrev pub without_position : Fault → FaultAt FaultKind
+without_position fault = record { kind = fault.kind; line = fault.line }

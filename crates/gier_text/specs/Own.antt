@@ -1,11 +1,12 @@
 -- Laws: what a text on a drum holds depends on the text and its own tracks alone.
-use Rattle.std.specs.Prelude.{◌≡◌, ◌<◌, ◌≤◌, ◌+◌, ◌/◌, [], Bool, true, false, ℕ, zero, suc, List, Option, None, Some, slice_index_or}
+use Rattle.std.specs.Prelude.{◌≡◌, ◌<◌, ◌≤◌, ◌+◌, ◌/◌, ◌==◌, [], Bool, true, false, ℕ, zero, suc, List, Option, None, Some, slice_index_or}
 use Rattle.std.proofs.Common.{ap, arith, refl}
+use Rattle.std.proofs.lemmas.Bool.Decides.{nat_tests}
 use Rattle.gier_drum.specs.declared.drum.Entry.{Entry}
 use Rattle.gier_symbol.specs.declared.symbol.Symbol.{Symbol}
 use Rattle.gier_text.specs.declared.text.Way.{Way}
 use Rattle.gier_text.specs.Left.{left_of}
-use Rattle.gier_text.specs.Coded.{listed, symbol_at, symbols_of, left_in, told, tracks_for}
+use Rattle.gier_text.specs.Coded.{listed, symbol_at, symbols_of, left_in, told, text_on, tracks_for}
 use Rattle.gier_text.specs.View.{View, SameTracks}
 
 pub listed_same : {A : Type 0} (f g : ℕ → A) (n : ℕ) → ((i : ℕ) → i < n → f i ≡ g i) → listed f n ≡ listed g n
@@ -47,3 +48,15 @@ seen tracks first loaded buffer count capacity rewound way unread log = record {
 
 pub own_view : (old new : Option (List (List ℕ))) (first loaded : ℕ) (buffer : List ℕ) (count capacity : ℕ) (rewound : Bool) (way : Way) (unread : ℕ) (log : List Entry) → count ≤ capacity → SameTracks first (first + tracks_for capacity) old new → seen new first loaded buffer count capacity rewound way unread log ≡ seen old first loaded buffer count capacity rewound way unread log
 own_view old new first loaded buffer count capacity rewound way unread log le same = rw (own_symbols old new first loaded buffer count capacity le same, own_left old new first loaded buffer count capacity way unread le same) refl
+
+-- a text of which nothing stands in the buffer has the symbols that are on its tracks
+unloaded : (tracks : List (List ℕ)) (first : ℕ) (buffer : List ℕ) (i : ℕ) → symbol_at tracks first 0 buffer i ≡ symbol_at tracks first 0 [] i
+unloaded tracks first buffer i =
+    let other : (i / 20 + 1 == 0) ≡ false = grind (arith, nat_tests) in
+    rw other refl
+
+pub found_on : (tracks : Option (List (List ℕ))) (first loaded : ℕ) (buffer : List ℕ) (count : ℕ) → loaded ≡ 0 → told (symbols_of tracks first loaded buffer count) ≡ text_on tracks first count
+unfolding symbols_of
+found_on None first loaded buffer count none = refl
+found_on (Some tracks) first loaded buffer count none =
+    rw none (ap (λ l. told (Some l)) (listed_same _ _ count (λ i below. unloaded tracks first buffer i)))

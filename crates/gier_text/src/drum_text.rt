@@ -72,6 +72,7 @@ impl<D: Drum> DrumText<D> {
         requires { first_track + tracks_for symbols ≤ 2 ^ 32 }
         ensures whole { (result.count ≡ symbols) × (result.rewound ≡ false) × (result.fresh ≡ false) }
         ensures place { (result.first ≡ first_track) × (result.capacity ≡ symbols) }
+        ensures on_drum { result.loaded ≡ 0 }
     {
         DrumText {
             first: first_track,
