@@ -68,7 +68,9 @@ pub(crate) fn enter_procedure(
     requires next { entry.next < words }
     requires place { m.old.place < words }
     requires kept { IsKept frames.old }
-    ensures row { (code input : List ℕ) → frames.old.entered ≡ true → IsCallable entry → Comes (entering code (length frames.old.words) (regs_of m.old frames.old input) entry) (regs_of m.new frames.new input) result }
+    ensures row { (code input : List ℕ) → frames.old.entered ≡ true → IsCallable entry
+        → Comes (entering code (length frames.old.words) (regs_of m.old frames.old input) entry) (regs_of m.new frames.new input)
+        result }
     ensures keeps { Keeps m.old m.new }
     ensures goes { IfOk result (λ at. Goes words m.old at m.new) }
     ensures size { length frames.new.words ≡ length frames.old.words }
@@ -117,7 +119,9 @@ pub(crate) fn enter_evaluation(
     requires found { IsFound words found }
     requires place { m.old.place < words }
     requires kept { IsKept frames.old }
-    ensures row { (code input : List ℕ) → frames.old.entered ≡ true → Comes (beginning code (length frames.old.words) (regs_of m.old frames.old input) found) (regs_of m.new frames.new input) result }
+    ensures row { (code input : List ℕ) → frames.old.entered ≡ true
+        → Comes (beginning code (length frames.old.words) (regs_of m.old frames.old input) found) (regs_of m.new frames.new input)
+        result }
     ensures keeps { Keeps m.old m.new }
     ensures goes { IfOk result (λ at. Goes words m.old at m.new) }
     ensures size { length frames.new.words ≡ length frames.old.words }
@@ -164,7 +168,9 @@ pub(crate) fn leave_procedure(
     kind: u32,
     words: u32,
 ) -> Result<u32, Stop>
-    ensures row { (code input : List ℕ) (l : ℕ) → frames.old.entered ≡ true → length code ≡ words → Comes (effect code (length frames.old.words) (regs_of m.old frames.old input) Return l kind) (regs_of m.new frames.new input) result }
+    ensures row { (code input : List ℕ) (l : ℕ) → frames.old.entered ≡ true → length code ≡ words
+        → Comes (effect code (length frames.old.words) (regs_of m.old frames.old input) Return l kind)
+        (regs_of m.new frames.new input) result }
     ensures keeps { Keeps m.old m.new }
     ensures goes { IfOk result (λ at. Goes words m.old at m.new) }
     ensures size { length frames.new.words ≡ length frames.old.words }
@@ -189,7 +195,9 @@ pub(crate) fn leave_evaluation(
     frames: &mut Frames,
     words: u32,
 ) -> Result<u32, Stop>
-    ensures row { (code input : List ℕ) (l a : ℕ) → frames.old.entered ≡ true → length code ≡ words → Comes (effect code (length frames.old.words) (regs_of m.old frames.old input) Back l a) (regs_of m.new frames.new input) result }
+    ensures row { (code input : List ℕ) (l a : ℕ) → frames.old.entered ≡ true → length code ≡ words
+        → Comes (effect code (length frames.old.words) (regs_of m.old frames.old input) Back l a) (regs_of m.new frames.new input)
+        result }
     ensures keeps { Keeps m.old m.new }
     ensures goes { IfOk result (λ at. Goes words m.old at m.new) }
     ensures size { length frames.new.words ≡ length frames.old.words }
@@ -207,7 +215,9 @@ pub(crate) fn leave_evaluation(
 /// GIVE: leaves the evaluation of a variable with its value or its place.
 #[tactic(auto, using(crate::proofs::Falling::paid_falls))]
 pub(crate) fn leave_variable(m: &mut Machine, frames: &mut Frames, words: u32) -> Result<u32, Stop>
-    ensures row { (code input : List ℕ) (l a : ℕ) → frames.old.entered ≡ true → length code ≡ words → Comes (effect code (length frames.old.words) (regs_of m.old frames.old input) Give l a) (regs_of m.new frames.new input) result }
+    ensures row { (code input : List ℕ) (l a : ℕ) → frames.old.entered ≡ true → length code ≡ words
+        → Comes (effect code (length frames.old.words) (regs_of m.old frames.old input) Give l a) (regs_of m.new frames.new input)
+        result }
     ensures keeps { Keeps m.old m.new }
     ensures goes { IfOk result (λ at. Goes words m.old at m.new) }
     ensures size { length frames.new.words ≡ length frames.old.words }
@@ -229,7 +239,9 @@ pub(crate) fn leave_variable(m: &mut Machine, frames: &mut Frames, words: u32) -
 
 /// What is wanted of the current activation; odd where it isn't an evaluation's.
 pub(crate) fn wanted_now(frames: &Frames) -> Result<Wanted, Stop>
-    ensures row { (code input : List ℕ) (m : Registers) (go : ℕ → Row) → frames.now.entered ≡ true → Gets (local_row code (length frames.now.words) (regs_of m frames.now input) 4 (λ wanted. needs (nat_le 1 wanted && nat_le wanted 3) (go wanted))) (λ wanted. go (number_of wanted)) result }
+    ensures row { (code input : List ℕ) (m : Registers) (go : ℕ → Row) → frames.now.entered ≡ true
+        → Gets (local_row code (length frames.now.words) (regs_of m frames.now input) 4
+        (λ wanted. needs (nat_le 1 wanted && nat_le wanted 3) (go wanted))) (λ wanted. go (number_of wanted)) result }
 {
     match local(frames, WANTED) {
         Ok(number) => match Wanted::of(number) {
@@ -244,7 +256,9 @@ pub(crate) fn wanted_now(frames: &Frames) -> Result<Wanted, Stop>
 #[tactic(auto, using(crate::proofs::Falling::paid_falls))]
 fn leave(m: &mut Machine, frames: &mut Frames, value: u64, words: u32) -> Result<u32, Stop>
     requires { value < 2 ^ 40 }
-    ensures row { (code input : List ℕ) → frames.old.entered ≡ true → length code ≡ words → Comes (leaves code (length frames.old.words) (regs_of m.old frames.old input) value) (regs_of m.new frames.new input) result }
+    ensures row { (code input : List ℕ) → frames.old.entered ≡ true → length code ≡ words
+        → Comes (leaves code (length frames.old.words) (regs_of m.old frames.old input) value) (regs_of m.new frames.new input)
+        result }
     ensures keeps { Keeps m.old m.new }
     ensures goes { IfOk result (λ at. Goes words m.old at m.new) }
     ensures size { length frames.new.words ≡ length frames.old.words }
@@ -266,7 +280,9 @@ fn leave(m: &mut Machine, frames: &mut Frames, value: u64, words: u32) -> Result
 
 // The order to return to; odd where nothing was entered.
 fn return_to(m: &Machine, frames: &Frames, words: u32) -> Result<u32, Stop>
-    ensures found { frames.now.entered ≡ true → result ≡ (if can_return words m.now frames.now then Ok (slice_index frames.now.words (frames.now.base + 3)) else Err Odd) }
+    ensures found { frames.now.entered ≡ true
+        → result ≡ (if can_return words m.now frames.now then Ok (slice_index frames.now.words (frames.now.base + 3)) else Err
+        Odd) }
     ensures entered { IfOk result (λ next. 0 < m.now.depth) }
     ensures within { IfOk result (λ next. next < words) }
 {

@@ -52,12 +52,17 @@ pub(crate) fn call<D: Drum>(
     requires place { m.old.place < object.now.words }
     requires kept { IsKept frames.old }
     requires can { CanRead 3 object.now (seen D.room D.tracks D.journal D.faults drum.old places.old recent.old trace.old) }
-    ensures row { (tracks : List (List ℕ)) (input : List ℕ) → D.tracks drum.old ≡ Some tracks → Agrees (Some tracks) places.old.held → frames.old.entered ≡ true → is_call operation ≡ true
-        → Acts object.now (seen D.room D.tracks D.journal D.faults drum.old places.old recent.old trace.old) (seen D.room D.tracks D.journal D.faults drum.new places.new recent.new trace.new) (effect (code_in tracks object.now) (length frames.old.words) (regs_of m.old frames.old input) operation order.level order.address) (regs_of m.new frames.new input) result }
+    ensures row { (tracks : List (List ℕ)) (input : List ℕ) → D.tracks drum.old ≡ Some tracks → Agrees (Some tracks) places.old.held
+        → frames.old.entered ≡ true → is_call operation ≡ true
+        → Acts object.now (seen D.room D.tracks D.journal D.faults drum.old places.old recent.old trace.old)
+        (seen D.room D.tracks D.journal D.faults drum.new places.new recent.new trace.new)
+        (effect (code_in tracks object.now) (length frames.old.words) (regs_of m.old frames.old input) operation order.level
+        order.address) (regs_of m.new frames.new input) result }
     ensures keeps { Keeps m.old m.new }
     ensures goes { IfOk result (λ next. Goes object.now.words m.old next m.new) }
     ensures size { length frames.new.words ≡ length frames.old.words }
-    ensures reads { Reads 3 object.now (seen D.room D.tracks D.journal D.faults drum.old places.old recent.old trace.old) (seen D.room D.tracks D.journal D.faults drum.new places.new recent.new trace.new) }
+    ensures reads { Reads 3 object.now (seen D.room D.tracks D.journal D.faults drum.old places.old recent.old trace.old)
+        (seen D.room D.tracks D.journal D.faults drum.new places.new recent.new trace.new) }
     ensures failed { result ≡ Err DrumFailed → HasRisen (D.faults drum.old) (D.faults drum.new) }
     ensures odd { result ≡ Err (Stopped Odd) → (m.new ≡ m.old) × (frames.new ≡ frames.old) }
 {
@@ -87,11 +92,17 @@ fn find<D: Drum>(
 ) -> Result<Entry, Miss>
     requires order { IsOrder order }
     requires can { CanRead 3 object.now (seen D.room D.tracks D.journal D.faults drum.old places.old recent.old trace.old) }
-    ensures row { (tracks : List (List ℕ)) (input : List ℕ) → D.tracks drum.old ≡ Some tracks → Agrees (Some tracks) places.old.held → frames.now.entered ≡ true → is_call operation ≡ true
-        → Searches object.now (seen D.room D.tracks D.journal D.faults drum.old places.old recent.old trace.old) (seen D.room D.tracks D.journal D.faults drum.new places.new recent.new trace.new) (effect (code_in tracks object.now) (length frames.now.words) (regs_of m.now frames.now input) operation order.level order.address) (regs_of m.now frames.now input) (entering (code_in tracks object.now) (length frames.now.words) (regs_of m.now frames.now input)) result }
+    ensures row { (tracks : List (List ℕ)) (input : List ℕ) → D.tracks drum.old ≡ Some tracks → Agrees (Some tracks) places.old.held
+        → frames.now.entered ≡ true → is_call operation ≡ true
+        → Searches object.now (seen D.room D.tracks D.journal D.faults drum.old places.old recent.old trace.old)
+        (seen D.room D.tracks D.journal D.faults drum.new places.new recent.new trace.new)
+        (effect (code_in tracks object.now) (length frames.now.words) (regs_of m.now frames.now input) operation order.level
+        order.address) (regs_of m.now frames.now input)
+        (entering (code_in tracks object.now) (length frames.now.words) (regs_of m.now frames.now input)) result }
     ensures found { IfOk result (λ entry. entry.next < object.now.words) }
     ensures callable { IfOk result IsCallable }
-    ensures reads { Reads 3 object.now (seen D.room D.tracks D.journal D.faults drum.old places.old recent.old trace.old) (seen D.room D.tracks D.journal D.faults drum.new places.new recent.new trace.new) }
+    ensures reads { Reads 3 object.now (seen D.room D.tracks D.journal D.faults drum.old places.old recent.old trace.old)
+        (seen D.room D.tracks D.journal D.faults drum.new places.new recent.new trace.new) }
     ensures failed { result ≡ Err DrumFailed → HasRisen (D.faults drum.old) (D.faults drum.new) }
 {
     match operation {
@@ -114,11 +125,17 @@ fn find_procedure<D: Drum>(
 ) -> Result<Entry, Miss>
     requires order { IsOrder order }
     requires can { CanRead 3 object.now (seen D.room D.tracks D.journal D.faults drum.old places.old recent.old trace.old) }
-    ensures row { (tracks : List (List ℕ)) (input : List ℕ) → D.tracks drum.old ≡ Some tracks → Agrees (Some tracks) places.old.held → frames.now.entered ≡ true
-        → Searches object.now (seen D.room D.tracks D.journal D.faults drum.old places.old recent.old trace.old) (seen D.room D.tracks D.journal D.faults drum.new places.new recent.new trace.new) (effect (code_in tracks object.now) (length frames.now.words) (regs_of m.now frames.now input) Call order.level order.address) (regs_of m.now frames.now input) (entering (code_in tracks object.now) (length frames.now.words) (regs_of m.now frames.now input)) result }
+    ensures row { (tracks : List (List ℕ)) (input : List ℕ) → D.tracks drum.old ≡ Some tracks → Agrees (Some tracks) places.old.held
+        → frames.now.entered ≡ true
+        → Searches object.now (seen D.room D.tracks D.journal D.faults drum.old places.old recent.old trace.old)
+        (seen D.room D.tracks D.journal D.faults drum.new places.new recent.new trace.new)
+        (effect (code_in tracks object.now) (length frames.now.words) (regs_of m.now frames.now input) Call order.level
+        order.address) (regs_of m.now frames.now input)
+        (entering (code_in tracks object.now) (length frames.now.words) (regs_of m.now frames.now input)) result }
     ensures found { IfOk result (λ entry. entry.next < object.now.words) }
     ensures callable { IfOk result IsCallable }
-    ensures reads { Reads 3 object.now (seen D.room D.tracks D.journal D.faults drum.old places.old recent.old trace.old) (seen D.room D.tracks D.journal D.faults drum.new places.new recent.new trace.new) }
+    ensures reads { Reads 3 object.now (seen D.room D.tracks D.journal D.faults drum.old places.old recent.old trace.old)
+        (seen D.room D.tracks D.journal D.faults drum.new places.new recent.new trace.new) }
     ensures failed { result ≡ Err DrumFailed → HasRisen (D.faults drum.old) (D.faults drum.new) }
 {
     let mut entry = match find_head(
@@ -159,12 +176,18 @@ fn find_head<D: Drum>(
     address: u64,
 ) -> Result<Entry, Miss>
     requires can { CanRead 2 object.now (seen D.room D.tracks D.journal D.faults drum.old places.old recent.old trace.old) }
-    ensures row { (tracks : List (List ℕ)) (size : ℕ) (regs : Regs) (go : Order → ℕ → Row) (made : ℕ → ℕ → ℕ → Row) → ((head : Order) (count : ℕ) → go head count ≡ made head.level head.address count) → D.tracks drum.old ≡ Some tracks → Agrees (Some tracks) places.old.held
-        → Searches object.now (seen D.room D.tracks D.journal D.faults drum.old places.old recent.old trace.old) (seen D.room D.tracks D.journal D.faults drum.new places.new recent.new trace.new) (reads_procedure (code_in tracks object.now) size regs address go) regs (λ entry. made entry.level entry.room entry.count) result }
+    ensures row { (tracks : List (List ℕ)) (size : ℕ) (regs : Regs) (go : Order → ℕ → Row) (made : ℕ → ℕ → ℕ → Row)
+        → ((head : Order) (count : ℕ) → go head count ≡ made head.level head.address count) → D.tracks drum.old ≡ Some tracks
+        → Agrees (Some tracks) places.old.held
+        → Searches object.now (seen D.room D.tracks D.journal D.faults drum.old places.old recent.old trace.old)
+        (seen D.room D.tracks D.journal D.faults drum.new places.new recent.new trace.new)
+        (reads_procedure (code_in tracks object.now) size regs address go) regs
+        (λ entry. made entry.level entry.room entry.count) result }
     ensures head { IfOk result (λ entry. IsHead entry address) }
     ensures found { IfOk result (λ entry. entry.next < object.now.words) }
     ensures few { IfOk result (λ entry. entry.count ≤ 511) }
-    ensures reads { Reads 2 object.now (seen D.room D.tracks D.journal D.faults drum.old places.old recent.old trace.old) (seen D.room D.tracks D.journal D.faults drum.new places.new recent.new trace.new) }
+    ensures reads { Reads 2 object.now (seen D.room D.tracks D.journal D.faults drum.old places.old recent.old trace.old)
+        (seen D.room D.tracks D.journal D.faults drum.new places.new recent.new trace.new) }
     ensures failed { result ≡ Err DrumFailed → HasRisen (D.faults drum.old) (D.faults drum.new) }
 {
     let head = match fetch_only(
@@ -197,14 +220,18 @@ fn find_entry<D: Drum>(
 ) -> Result<Entry, Miss>
     requires within { address < object.now.words }
     requires can { CanRead 1 object.now (seen D.room D.tracks D.journal D.faults drum.old places.old recent.old trace.old) }
-    ensures row { (tracks : List (List ℕ)) (size : ℕ) (regs : Regs) (go : ℕ → Row) → D.tracks drum.old ≡ Some tracks → Agrees (Some tracks) places.old.held
-        → Searches object.now (seen D.room D.tracks D.journal D.faults drum.old places.old recent.old trace.old) (seen D.room D.tracks D.journal D.faults drum.new places.new recent.new trace.new) (reads_count (code_in tracks object.now) size regs address most go) regs (λ entry. go entry.count) result }
+    ensures row { (tracks : List (List ℕ)) (size : ℕ) (regs : Regs) (go : ℕ → Row) → D.tracks drum.old ≡ Some tracks
+        → Agrees (Some tracks) places.old.held
+        → Searches object.now (seen D.room D.tracks D.journal D.faults drum.old places.old recent.old trace.old)
+        (seen D.room D.tracks D.journal D.faults drum.new places.new recent.new trace.new)
+        (reads_count (code_in tracks object.now) size regs address most go) regs (λ entry. go entry.count) result }
     ensures head { IfOk result (λ entry. IsHead entry address) }
     ensures level { IfOk result (λ entry. entry.level ≡ head.level) }
     ensures room { IfOk result (λ entry. entry.room ≡ head.address) }
     ensures found { IfOk result (λ entry. entry.next < object.now.words) }
     ensures few { IfOk result (λ entry. entry.count ≤ most) }
-    ensures reads { Reads 1 object.now (seen D.room D.tracks D.journal D.faults drum.old places.old recent.old trace.old) (seen D.room D.tracks D.journal D.faults drum.new places.new recent.new trace.new) }
+    ensures reads { Reads 1 object.now (seen D.room D.tracks D.journal D.faults drum.old places.old recent.old trace.old)
+        (seen D.room D.tracks D.journal D.faults drum.new places.new recent.new trace.new) }
     ensures failed { result ≡ Err DrumFailed → HasRisen (D.faults drum.old) (D.faults drum.new) }
 {
     let count = match fetch(object, drum, places, recent, trace, address + 1) {
@@ -238,11 +265,17 @@ fn find_formal<D: Drum>(
 ) -> Result<Entry, Miss>
     requires order { IsOrder order }
     requires can { CanRead 3 object.now (seen D.room D.tracks D.journal D.faults drum.old places.old recent.old trace.old) }
-    ensures row { (tracks : List (List ℕ)) (input : List ℕ) → D.tracks drum.old ≡ Some tracks → Agrees (Some tracks) places.old.held → frames.now.entered ≡ true
-        → Searches object.now (seen D.room D.tracks D.journal D.faults drum.old places.old recent.old trace.old) (seen D.room D.tracks D.journal D.faults drum.new places.new recent.new trace.new) (effect (code_in tracks object.now) (length frames.now.words) (regs_of m.now frames.now input) Formal order.level order.address) (regs_of m.now frames.now input) (entering (code_in tracks object.now) (length frames.now.words) (regs_of m.now frames.now input)) result }
+    ensures row { (tracks : List (List ℕ)) (input : List ℕ) → D.tracks drum.old ≡ Some tracks → Agrees (Some tracks) places.old.held
+        → frames.now.entered ≡ true
+        → Searches object.now (seen D.room D.tracks D.journal D.faults drum.old places.old recent.old trace.old)
+        (seen D.room D.tracks D.journal D.faults drum.new places.new recent.new trace.new)
+        (effect (code_in tracks object.now) (length frames.now.words) (regs_of m.now frames.now input) Formal order.level
+        order.address) (regs_of m.now frames.now input)
+        (entering (code_in tracks object.now) (length frames.now.words) (regs_of m.now frames.now input)) result }
     ensures found { IfOk result (λ entry. entry.next < object.now.words) }
     ensures callable { IfOk result IsCallable }
-    ensures reads { Reads 3 object.now (seen D.room D.tracks D.journal D.faults drum.old places.old recent.old trace.old) (seen D.room D.tracks D.journal D.faults drum.new places.new recent.new trace.new) }
+    ensures reads { Reads 3 object.now (seen D.room D.tracks D.journal D.faults drum.old places.old recent.old trace.old)
+        (seen D.room D.tracks D.journal D.faults drum.new places.new recent.new trace.new) }
     ensures failed { result ≡ Err DrumFailed → HasRisen (D.faults drum.old) (D.faults drum.new) }
 {
     let place = match place_of(frames, order.level, order.address) {
@@ -276,12 +309,19 @@ fn find_bare<D: Drum>(
     address: u64,
 ) -> Result<Entry, Miss>
     requires can { CanRead 2 object.now (seen D.room D.tracks D.journal D.faults drum.old places.old recent.old trace.old) }
-    ensures row { (tracks : List (List ℕ)) (size : ℕ) (regs : Regs) (place : ℕ) → D.tracks drum.old ≡ Some tracks → Agrees (Some tracks) places.old.held
-        → Searches object.now (seen D.room D.tracks D.journal D.faults drum.old places.old recent.old trace.old) (seen D.room D.tracks D.journal D.faults drum.new places.new recent.new trace.new) (reads_order (code_in tracks object.now) size regs address (λ head. calls_bare (code_in tracks object.now) size regs address place head (handed head))) regs (λ entry. word_at (code_in tracks object.now) size regs place (λ outer. entering (code_in tracks object.now) size regs (record entry { outer = outer }))) result }
+    ensures row { (tracks : List (List ℕ)) (size : ℕ) (regs : Regs) (place : ℕ) → D.tracks drum.old ≡ Some tracks
+        → Agrees (Some tracks) places.old.held
+        → Searches object.now (seen D.room D.tracks D.journal D.faults drum.old places.old recent.old trace.old)
+        (seen D.room D.tracks D.journal D.faults drum.new places.new recent.new trace.new)
+        (reads_order (code_in tracks object.now) size regs address
+        (λ head. calls_bare (code_in tracks object.now) size regs address place head (handed head))) regs
+        (λ entry. word_at (code_in tracks object.now) size regs place
+        (λ outer. entering (code_in tracks object.now) size regs (record entry { outer = outer }))) result }
     ensures from { IfOk result (λ entry. entry.from ≡ 0) }
     ensures found { IfOk result (λ entry. entry.next < object.now.words) }
     ensures few { IfOk result (λ entry. entry.count ≤ 511) }
-    ensures reads { Reads 2 object.now (seen D.room D.tracks D.journal D.faults drum.old places.old recent.old trace.old) (seen D.room D.tracks D.journal D.faults drum.new places.new recent.new trace.new) }
+    ensures reads { Reads 2 object.now (seen D.room D.tracks D.journal D.faults drum.old places.old recent.old trace.old)
+        (seen D.room D.tracks D.journal D.faults drum.new places.new recent.new trace.new) }
     ensures failed { result ≡ Err DrumFailed → HasRisen (D.faults drum.old) (D.faults drum.new) }
 {
     let head = match fetch_order(object, drum, places, recent, trace, address) {
@@ -323,12 +363,18 @@ pub(crate) fn fetch_kinds<D: Drum>(
     address: u64,
 ) -> Result<Order, Miss>
     requires can { CanRead 1 object.now (seen D.room D.tracks D.journal D.faults drum.old places.old recent.old trace.old) }
-    ensures row { (tracks : List (List ℕ)) (size : ℕ) (regs : Regs) (go : Order → Handed → Row) → ((head : Order) → go head Bare ≡ odd) → ((head : Order) → go head Neither ≡ odd) → D.tracks drum.old ≡ Some tracks → Agrees (Some tracks) places.old.held
-        → Searches object.now (seen D.room D.tracks D.journal D.faults drum.old places.old recent.old trace.old) (seen D.room D.tracks D.journal D.faults drum.new places.new recent.new trace.new) (reads_order (code_in tracks object.now) size regs address (λ head. go head (handed head))) regs (λ kinds. go kinds (Kinded kinds.level)) result }
+    ensures row { (tracks : List (List ℕ)) (size : ℕ) (regs : Regs) (go : Order → Handed → Row)
+        → ((head : Order) → go head Bare ≡ odd) → ((head : Order) → go head Neither ≡ odd) → D.tracks drum.old ≡ Some tracks
+        → Agrees (Some tracks) places.old.held
+        → Searches object.now (seen D.room D.tracks D.journal D.faults drum.old places.old recent.old trace.old)
+        (seen D.room D.tracks D.journal D.faults drum.new places.new recent.new trace.new)
+        (reads_order (code_in tracks object.now) size regs address (λ head. go head (handed head))) regs
+        (λ kinds. go kinds (Kinded kinds.level)) result }
     ensures order { IfOk result IsOrder }
     ensures some { IfOk result (λ order. 1 ≤ order.level) }
     ensures few { IfOk result (λ order. order.level ≤ 80) }
-    ensures reads { Reads 1 object.now (seen D.room D.tracks D.journal D.faults drum.old places.old recent.old trace.old) (seen D.room D.tracks D.journal D.faults drum.new places.new recent.new trace.new) }
+    ensures reads { Reads 1 object.now (seen D.room D.tracks D.journal D.faults drum.old places.old recent.old trace.old)
+        (seen D.room D.tracks D.journal D.faults drum.new places.new recent.new trace.new) }
     ensures failed { result ≡ Err DrumFailed → HasRisen (D.faults drum.old) (D.faults drum.new) }
 {
     let head = match fetch_order(object, drum, places, recent, trace, address) {
@@ -355,11 +401,17 @@ fn find_compared<D: Drum>(
 ) -> Result<Entry, Miss>
     requires order { IsOrder order }
     requires can { CanRead 3 object.now (seen D.room D.tracks D.journal D.faults drum.old places.old recent.old trace.old) }
-    ensures row { (tracks : List (List ℕ)) (input : List ℕ) → D.tracks drum.old ≡ Some tracks → Agrees (Some tracks) places.old.held → frames.now.entered ≡ true
-        → Searches object.now (seen D.room D.tracks D.journal D.faults drum.old places.old recent.old trace.old) (seen D.room D.tracks D.journal D.faults drum.new places.new recent.new trace.new) (effect (code_in tracks object.now) (length frames.now.words) (regs_of m.now frames.now input) CallF order.level order.address) (regs_of m.now frames.now input) (entering (code_in tracks object.now) (length frames.now.words) (regs_of m.now frames.now input)) result }
+    ensures row { (tracks : List (List ℕ)) (input : List ℕ) → D.tracks drum.old ≡ Some tracks → Agrees (Some tracks) places.old.held
+        → frames.now.entered ≡ true
+        → Searches object.now (seen D.room D.tracks D.journal D.faults drum.old places.old recent.old trace.old)
+        (seen D.room D.tracks D.journal D.faults drum.new places.new recent.new trace.new)
+        (effect (code_in tracks object.now) (length frames.now.words) (regs_of m.now frames.now input) CallF order.level
+        order.address) (regs_of m.now frames.now input)
+        (entering (code_in tracks object.now) (length frames.now.words) (regs_of m.now frames.now input)) result }
     ensures found { IfOk result (λ entry. entry.next < object.now.words) }
     ensures callable { IfOk result IsCallable }
-    ensures reads { Reads 3 object.now (seen D.room D.tracks D.journal D.faults drum.old places.old recent.old trace.old) (seen D.room D.tracks D.journal D.faults drum.new places.new recent.new trace.new) }
+    ensures reads { Reads 3 object.now (seen D.room D.tracks D.journal D.faults drum.old places.old recent.old trace.old)
+        (seen D.room D.tracks D.journal D.faults drum.new places.new recent.new trace.new) }
     ensures failed { result ≡ Err DrumFailed → HasRisen (D.faults drum.old) (D.faults drum.new) }
 {
     let place = match place_of(frames, order.level, order.address) {
@@ -394,12 +446,19 @@ fn find_kinded<D: Drum>(
     address: u64,
 ) -> Result<Entry, Miss>
     requires can { CanRead 3 object.now (seen D.room D.tracks D.journal D.faults drum.old places.old recent.old trace.old) }
-    ensures row { (tracks : List (List ℕ)) (size : ℕ) (regs : Regs) (place : ℕ) → D.tracks drum.old ≡ Some tracks → Agrees (Some tracks) places.old.held
-        → Searches object.now (seen D.room D.tracks D.journal D.faults drum.old places.old recent.old trace.old) (seen D.room D.tracks D.journal D.faults drum.new places.new recent.new trace.new) (reads_order (code_in tracks object.now) size regs address (λ kinds. calls_kinded (code_in tracks object.now) size regs place kinds (handed kinds))) regs (λ entry. word_at (code_in tracks object.now) size regs place (λ outer. entering (code_in tracks object.now) size regs (record entry { outer = outer; from = regs.r }))) result }
+    ensures row { (tracks : List (List ℕ)) (size : ℕ) (regs : Regs) (place : ℕ) → D.tracks drum.old ≡ Some tracks
+        → Agrees (Some tracks) places.old.held
+        → Searches object.now (seen D.room D.tracks D.journal D.faults drum.old places.old recent.old trace.old)
+        (seen D.room D.tracks D.journal D.faults drum.new places.new recent.new trace.new)
+        (reads_order (code_in tracks object.now) size regs address
+        (λ kinds. calls_kinded (code_in tracks object.now) size regs place kinds (handed kinds))) regs
+        (λ entry. word_at (code_in tracks object.now) size regs place
+        (λ outer. entering (code_in tracks object.now) size regs (record entry { outer = outer; from = regs.r }))) result }
     ensures found { IfOk result (λ entry. entry.next < object.now.words) }
     ensures few { IfOk result (λ entry. entry.count ≤ 511) }
     ensures some { IfOk result (λ entry. 2 ≤ entry.count) }
-    ensures reads { Reads 3 object.now (seen D.room D.tracks D.journal D.faults drum.old places.old recent.old trace.old) (seen D.room D.tracks D.journal D.faults drum.new places.new recent.new trace.new) }
+    ensures reads { Reads 3 object.now (seen D.room D.tracks D.journal D.faults drum.old places.old recent.old trace.old)
+        (seen D.room D.tracks D.journal D.faults drum.new places.new recent.new trace.new) }
     ensures failed { result ≡ Err DrumFailed → HasRisen (D.faults drum.old) (D.faults drum.new) }
 {
     let kinds = match fetch_kinds(object, drum, places, recent, trace, address) {

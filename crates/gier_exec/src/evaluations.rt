@@ -52,12 +52,17 @@ pub(crate) fn evaluate<D: Drum>(
     requires place { m.old.place < object.now.words }
     requires can { CanRead 1 object.now (seen D.room D.tracks D.journal D.faults drum.old places.old recent.old trace.old) }
     requires kept { IsKept frames.old }
-    ensures row { (tracks : List (List ℕ)) (input : List ℕ) → D.tracks drum.old ≡ Some tracks → Agrees (Some tracks) places.old.held → frames.old.entered ≡ true → is_evaluation operation ≡ true
-        → Acts object.now (seen D.room D.tracks D.journal D.faults drum.old places.old recent.old trace.old) (seen D.room D.tracks D.journal D.faults drum.new places.new recent.new trace.new) (effect (code_in tracks object.now) (length frames.old.words) (regs_of m.old frames.old input) operation order.level order.address) (regs_of m.new frames.new input) result }
+    ensures row { (tracks : List (List ℕ)) (input : List ℕ) → D.tracks drum.old ≡ Some tracks → Agrees (Some tracks) places.old.held
+        → frames.old.entered ≡ true → is_evaluation operation ≡ true
+        → Acts object.now (seen D.room D.tracks D.journal D.faults drum.old places.old recent.old trace.old)
+        (seen D.room D.tracks D.journal D.faults drum.new places.new recent.new trace.new)
+        (effect (code_in tracks object.now) (length frames.old.words) (regs_of m.old frames.old input) operation order.level
+        order.address) (regs_of m.new frames.new input) result }
     ensures keeps { Keeps m.old m.new }
     ensures goes { IfOk result (λ next. Goes object.now.words m.old next m.new) }
     ensures size { length frames.new.words ≡ length frames.old.words }
-    ensures reads { Reads 1 object.now (seen D.room D.tracks D.journal D.faults drum.old places.old recent.old trace.old) (seen D.room D.tracks D.journal D.faults drum.new places.new recent.new trace.new) }
+    ensures reads { Reads 1 object.now (seen D.room D.tracks D.journal D.faults drum.old places.old recent.old trace.old)
+        (seen D.room D.tracks D.journal D.faults drum.new places.new recent.new trace.new) }
     ensures failed { result ≡ Err DrumFailed → HasRisen (D.faults drum.old) (D.faults drum.new) }
     ensures odd { result ≡ Err (Stopped Odd) → (m.new ≡ m.old) × (frames.new ≡ frames.old) }
 {
@@ -89,12 +94,17 @@ pub(crate) fn choose<D: Drum>(
     requires place { m.old.place < object.now.words }
     requires can { CanRead 3 object.now (seen D.room D.tracks D.journal D.faults drum.old places.old recent.old trace.old) }
     requires kept { IsKept frames.old }
-    ensures row { (tracks : List (List ℕ)) (input : List ℕ) → D.tracks drum.old ≡ Some tracks → Agrees (Some tracks) places.old.held → frames.old.entered ≡ true → is_choice operation ≡ true
-        → Acts object.now (seen D.room D.tracks D.journal D.faults drum.old places.old recent.old trace.old) (seen D.room D.tracks D.journal D.faults drum.new places.new recent.new trace.new) (effect (code_in tracks object.now) (length frames.old.words) (regs_of m.old frames.old input) operation order.level order.address) (regs_of m.new frames.new input) result }
+    ensures row { (tracks : List (List ℕ)) (input : List ℕ) → D.tracks drum.old ≡ Some tracks → Agrees (Some tracks) places.old.held
+        → frames.old.entered ≡ true → is_choice operation ≡ true
+        → Acts object.now (seen D.room D.tracks D.journal D.faults drum.old places.old recent.old trace.old)
+        (seen D.room D.tracks D.journal D.faults drum.new places.new recent.new trace.new)
+        (effect (code_in tracks object.now) (length frames.old.words) (regs_of m.old frames.old input) operation order.level
+        order.address) (regs_of m.new frames.new input) result }
     ensures keeps { Keeps m.old m.new }
     ensures goes { IfOk result (λ next. Goes object.now.words m.old next m.new) }
     ensures size { length frames.new.words ≡ length frames.old.words }
-    ensures reads { Reads 3 object.now (seen D.room D.tracks D.journal D.faults drum.old places.old recent.old trace.old) (seen D.room D.tracks D.journal D.faults drum.new places.new recent.new trace.new) }
+    ensures reads { Reads 3 object.now (seen D.room D.tracks D.journal D.faults drum.old places.old recent.old trace.old)
+        (seen D.room D.tracks D.journal D.faults drum.new places.new recent.new trace.new) }
     ensures failed { result ≡ Err DrumFailed → HasRisen (D.faults drum.old) (D.faults drum.new) }
     ensures odd { result ≡ Err (Stopped Odd) → (m.new ≡ m.old) × (frames.new ≡ frames.old) }
 {
@@ -120,7 +130,9 @@ fn enter_chosen(
     requires found { IfSome chosen (λ found. IsFound words found) }
     requires place { m.old.place < words }
     requires kept { IsKept frames.old }
-    ensures row { (code input : List ℕ) → frames.old.entered ≡ true → length code ≡ words → Comes (choosing code (length frames.old.words) (regs_of m.old frames.old input) chosen) (regs_of m.new frames.new input) result }
+    ensures row { (code input : List ℕ) → frames.old.entered ≡ true → length code ≡ words
+        → Comes (choosing code (length frames.old.words) (regs_of m.old frames.old input) chosen) (regs_of m.new frames.new input)
+        result }
     ensures keeps { Keeps m.old m.new }
     ensures goes { IfOk result (λ at. Goes words m.old at m.new) }
     ensures size { length frames.new.words ≡ length frames.old.words }
@@ -134,7 +146,8 @@ fn enter_chosen(
 
 // The subscript names no element.
 fn choose_none(m: &mut Machine, words: u32) -> Result<u32, Stop>
-    ensures row { (code input : List ℕ) (s : State) → length code ≡ words → Comes (choosing code (length s.words) (regs_of m.old s input) None) (regs_of m.new s input) result }
+    ensures row { (code input : List ℕ) (s : State) → length code ≡ words
+        → Comes (choosing code (length s.words) (regs_of m.old s input) None) (regs_of m.new s input) result }
     ensures keeps { Keeps m.old m.new }
     ensures goes { IfOk result (λ next. Goes words m.old next m.new) }
     ensures odd { result ≡ Err Odd → m.new ≡ m.old }
@@ -162,10 +175,16 @@ fn find_formal<D: Drum>(
 ) -> Result<Evaluation, Miss>
     requires order { IsOrder order }
     requires can { CanRead 1 object.now (seen D.room D.tracks D.journal D.faults drum.old places.old recent.old trace.old) }
-    ensures row { (tracks : List (List ℕ)) (m : Registers) (input : List ℕ) → D.tracks drum.old ≡ Some tracks → Agrees (Some tracks) places.old.held → frames.now.entered ≡ true → is_evaluation operation ≡ true
-        → Searches object.now (seen D.room D.tracks D.journal D.faults drum.old places.old recent.old trace.old) (seen D.room D.tracks D.journal D.faults drum.new places.new recent.new trace.new) (effect (code_in tracks object.now) (length frames.now.words) (regs_of m frames.now input) operation order.level order.address) (regs_of m frames.now input) (λ found. beginning (code_in tracks object.now) (length frames.now.words) (regs_of m frames.now input) found) result }
+    ensures row { (tracks : List (List ℕ)) (m : Registers) (input : List ℕ) → D.tracks drum.old ≡ Some tracks
+        → Agrees (Some tracks) places.old.held → frames.now.entered ≡ true → is_evaluation operation ≡ true
+        → Searches object.now (seen D.room D.tracks D.journal D.faults drum.old places.old recent.old trace.old)
+        (seen D.room D.tracks D.journal D.faults drum.new places.new recent.new trace.new)
+        (effect (code_in tracks object.now) (length frames.now.words) (regs_of m frames.now input) operation order.level
+        order.address) (regs_of m frames.now input)
+        (λ found. beginning (code_in tracks object.now) (length frames.now.words) (regs_of m frames.now input) found) result }
     ensures found { IfOk result (λ found. IsFound object.now.words found) }
-    ensures reads { Reads 1 object.now (seen D.room D.tracks D.journal D.faults drum.old places.old recent.old trace.old) (seen D.room D.tracks D.journal D.faults drum.new places.new recent.new trace.new) }
+    ensures reads { Reads 1 object.now (seen D.room D.tracks D.journal D.faults drum.old places.old recent.old trace.old)
+        (seen D.room D.tracks D.journal D.faults drum.new places.new recent.new trace.new) }
     ensures failed { result ≡ Err DrumFailed → HasRisen (D.faults drum.old) (D.faults drum.new) }
 {
     let wanted = match wanted_by(frames, operation) {
@@ -182,7 +201,10 @@ fn find_formal<D: Drum>(
 // What an order wants of the evaluation in cell; PASS wants what the current activation wants, and no label.
 fn wanted_by(frames: &Frames, operation: Operation) -> Result<Wanted, Stop>
     ensures row { (code input : List ℕ) (m : Registers) (l a : ℕ) → frames.now.entered ≡ true → is_evaluation operation ≡ true
-        → Gets (effect code (length frames.now.words) (regs_of m frames.now input) operation l a) (λ wanted. cell_pair code (length frames.now.words) (regs_of m frames.now input) l a (λ k outer. evaluates code (length frames.now.words) (regs_of m frames.now input) k outer (wanted_number wanted))) result }
+        → Gets (effect code (length frames.now.words) (regs_of m frames.now input) operation l a)
+        (λ wanted. cell_pair code (length frames.now.words) (regs_of m frames.now input) l a
+        (λ k outer. evaluates code (length frames.now.words) (regs_of m frames.now input) k outer (wanted_number wanted)))
+        result }
 {
     match operation {
         Operation::Value => Ok(Wanted::Value),
@@ -218,10 +240,15 @@ fn find_thunk<D: Drum>(
     wanted: Wanted,
 ) -> Result<Evaluation, Miss>
     requires can { CanRead 1 object.now (seen D.room D.tracks D.journal D.faults drum.old places.old recent.old trace.old) }
-    ensures row { (tracks : List (List ℕ)) (size : ℕ) (regs : Regs) → D.tracks drum.old ≡ Some tracks → Agrees (Some tracks) places.old.held
-        → Searches object.now (seen D.room D.tracks D.journal D.faults drum.old places.old recent.old trace.old) (seen D.room D.tracks D.journal D.faults drum.new places.new recent.new trace.new) (evaluates (code_in tracks object.now) size regs address outer (wanted_number wanted)) regs (λ found. beginning (code_in tracks object.now) size regs found) result }
+    ensures row { (tracks : List (List ℕ)) (size : ℕ) (regs : Regs) → D.tracks drum.old ≡ Some tracks
+        → Agrees (Some tracks) places.old.held
+        → Searches object.now (seen D.room D.tracks D.journal D.faults drum.old places.old recent.old trace.old)
+        (seen D.room D.tracks D.journal D.faults drum.new places.new recent.new trace.new)
+        (evaluates (code_in tracks object.now) size regs address outer (wanted_number wanted)) regs
+        (λ found. beginning (code_in tracks object.now) size regs found) result }
     ensures found { IfOk result (λ found. IsFound object.now.words found) }
-    ensures reads { Reads 1 object.now (seen D.room D.tracks D.journal D.faults drum.old places.old recent.old trace.old) (seen D.room D.tracks D.journal D.faults drum.new places.new recent.new trace.new) }
+    ensures reads { Reads 1 object.now (seen D.room D.tracks D.journal D.faults drum.old places.old recent.old trace.old)
+        (seen D.room D.tracks D.journal D.faults drum.new places.new recent.new trace.new) }
     ensures failed { result ≡ Err DrumFailed → HasRisen (D.faults drum.old) (D.faults drum.new) }
 {
     let thunk = match fetch_only(
@@ -262,10 +289,17 @@ fn find_element<D: Drum>(
 ) -> Result<Option<Evaluation>, Miss>
     requires order { IsOrder order }
     requires can { CanRead 3 object.now (seen D.room D.tracks D.journal D.faults drum.old places.old recent.old trace.old) }
-    ensures row { (tracks : List (List ℕ)) (input : List ℕ) → D.tracks drum.old ≡ Some tracks → Agrees (Some tracks) places.old.held → frames.now.entered ≡ true → is_choice operation ≡ true
-        → Searches object.now (seen D.room D.tracks D.journal D.faults drum.old places.old recent.old trace.old) (seen D.room D.tracks D.journal D.faults drum.new places.new recent.new trace.new) (effect (code_in tracks object.now) (length frames.now.words) (regs_of m.now frames.now input) operation order.level order.address) (regs_of m.now frames.now input) (λ chosen. choosing (code_in tracks object.now) (length frames.now.words) (regs_of m.now frames.now input) chosen) result }
+    ensures row { (tracks : List (List ℕ)) (input : List ℕ) → D.tracks drum.old ≡ Some tracks → Agrees (Some tracks) places.old.held
+        → frames.now.entered ≡ true → is_choice operation ≡ true
+        → Searches object.now (seen D.room D.tracks D.journal D.faults drum.old places.old recent.old trace.old)
+        (seen D.room D.tracks D.journal D.faults drum.new places.new recent.new trace.new)
+        (effect (code_in tracks object.now) (length frames.now.words) (regs_of m.now frames.now input) operation order.level
+        order.address) (regs_of m.now frames.now input)
+        (λ chosen. choosing (code_in tracks object.now) (length frames.now.words) (regs_of m.now frames.now input) chosen)
+        result }
     ensures found { IfOk result (λ chosen. IfSome chosen (λ found. IsFound object.now.words found)) }
-    ensures reads { Reads 3 object.now (seen D.room D.tracks D.journal D.faults drum.old places.old recent.old trace.old) (seen D.room D.tracks D.journal D.faults drum.new places.new recent.new trace.new) }
+    ensures reads { Reads 3 object.now (seen D.room D.tracks D.journal D.faults drum.old places.old recent.old trace.old)
+        (seen D.room D.tracks D.journal D.faults drum.new places.new recent.new trace.new) }
     ensures failed { result ≡ Err DrumFailed → HasRisen (D.faults drum.old) (D.faults drum.new) }
 {
     let (table, outer) = match find_table(frames, operation, order) {
@@ -289,7 +323,8 @@ fn find_element<D: Drum>(
 fn find_table(frames: &Frames, operation: Operation, order: Order) -> Result<(u64, u64), Stop>
     requires { IsOrder order }
     ensures row { (code input : List ℕ) (m : Registers) → frames.now.entered ≡ true → is_choice operation ≡ true
-        → Gets (effect code (length frames.now.words) (regs_of m frames.now input) operation order.level order.address) (λ pair. switches code (length frames.now.words) (regs_of m frames.now input) pair.0 pair.1) result }
+        → Gets (effect code (length frames.now.words) (regs_of m frames.now input) operation order.level order.address)
+        (λ pair. switches code (length frames.now.words) (regs_of m frames.now input) pair.0 pair.1) result }
     ensures small { IfOk result (λ pair. pair.0 < 2 ^ 40) }
 {
     match operation {
@@ -312,10 +347,16 @@ fn find_label<D: Drum>(
     outer: u64,
 ) -> Result<Evaluation, Miss>
     requires can { CanRead 2 object.now (seen D.room D.tracks D.journal D.faults drum.old places.old recent.old trace.old) }
-    ensures row { (tracks : List (List ℕ)) (size : ℕ) (regs : Regs) → D.tracks drum.old ≡ Some tracks → Agrees (Some tracks) places.old.held
-        → Searches object.now (seen D.room D.tracks D.journal D.faults drum.old places.old recent.old trace.old) (seen D.room D.tracks D.journal D.faults drum.new places.new recent.new trace.new) (reads_word (code_in tracks object.now) entry (λ address. evaluates (code_in tracks object.now) size regs address outer 3)) regs (λ found. beginning (code_in tracks object.now) size regs found) result }
+    ensures row { (tracks : List (List ℕ)) (size : ℕ) (regs : Regs) → D.tracks drum.old ≡ Some tracks
+        → Agrees (Some tracks) places.old.held
+        → Searches object.now (seen D.room D.tracks D.journal D.faults drum.old places.old recent.old trace.old)
+        (seen D.room D.tracks D.journal D.faults drum.new places.new recent.new trace.new)
+        (reads_word (code_in tracks object.now) entry
+        (λ address. evaluates (code_in tracks object.now) size regs address outer 3)) regs
+        (λ found. beginning (code_in tracks object.now) size regs found) result }
     ensures found { IfOk result (λ found. IsFound object.now.words found) }
-    ensures reads { Reads 2 object.now (seen D.room D.tracks D.journal D.faults drum.old places.old recent.old trace.old) (seen D.room D.tracks D.journal D.faults drum.new places.new recent.new trace.new) }
+    ensures reads { Reads 2 object.now (seen D.room D.tracks D.journal D.faults drum.old places.old recent.old trace.old)
+        (seen D.room D.tracks D.journal D.faults drum.new places.new recent.new trace.new) }
     ensures failed { result ≡ Err DrumFailed → HasRisen (D.faults drum.old) (D.faults drum.new) }
 {
     let address = match fetch(object, drum, places, recent, trace, entry) {

@@ -56,22 +56,31 @@ pub(crate) fn execute<D: Drum, S: Source, K: Sink>(
 ) -> Result<u32, Quit>
     requires order { IsOrder order }
     requires place { m.old.place < object.now.words }
-    requires can { CanRead (2 * object.now.words + 1) object.now (seen D.room D.tracks D.journal D.faults drum.old places.old recent.old trace.old) }
+    requires can { CanRead (2 * object.now.words + 1) object.now
+        (seen D.room D.tracks D.journal D.faults drum.old places.old recent.old trace.old) }
     ensures row { (tracks : List (List ℕ)) → D.tracks drum.old ≡ Some tracks → Agrees (Some tracks) places.old.held
-        → (read put taken : List ℕ) × Refers object.now read (seen D.room D.tracks D.journal D.faults drum.old places.old recent.old trace.old) (seen D.room D.tracks D.journal D.faults drum.new places.new recent.new trace.new)
+        → (read put taken : List ℕ) × Refers object.now read
+        (seen D.room D.tracks D.journal D.faults drum.old places.old recent.old trace.old)
+        (seen D.room D.tracks D.journal D.faults drum.new places.new recent.new trace.new)
         × Puts (K.holds out.old) put (K.holds out.new) × Takes (stand_of S.left input.old) taken (stand_of S.left input.new)
-        × ((rest : List ℕ) → IsRest (ended input.new) rest → Obeys (does (code_in tracks object.now) (length frames.old.words) (regs_of m.old frames.old (taken ++ rest)) order (operation_at order.op)) (regs_of m.old frames.old (taken ++ rest)) (regs_of m.new frames.new rest) read put taken result) }
+        × ((rest : List ℕ) → IsRest (ended input.new) rest
+        → Obeys (does (code_in tracks object.now) (length frames.old.words) (regs_of m.old frames.old (taken ++ rest)) order
+        (operation_at order.op)) (regs_of m.old frames.old (taken ++ rest)) (regs_of m.new frames.new rest) read put taken
+        result) }
     ensures keeps { Keeps m.old m.new }
     ensures goes { IfOk result (λ next. Goes object.now.words m.old next m.new) }
     ensures size { length frames.new.words ≡ length frames.old.words }
-    ensures reads { Reads (2 * object.now.words + 1) object.now (seen D.room D.tracks D.journal D.faults drum.old places.old recent.old trace.old) (seen D.room D.tracks D.journal D.faults drum.new places.new recent.new trace.new) }
+    ensures reads { Reads (2 * object.now.words + 1) object.now
+        (seen D.room D.tracks D.journal D.faults drum.old places.old recent.old trace.old)
+        (seen D.room D.tracks D.journal D.faults drum.new places.new recent.new trace.new) }
     ensures same_reference { input.new.source.ghost_name ≡ input.old.source.ghost_name }
     ensures source_later { S.faults (source_of input.old) ≤ S.faults (source_of input.new) }
     ensures source_failed { result ≡ Err Read → HasRisen (S.faults (source_of input.old)) (S.faults (source_of input.new)) }
     ensures sink_later { K.faults out.old ≤ K.faults out.new }
     ensures sink_failed { result ≡ Err Write → HasRisen (K.faults out.old) (K.faults out.new) }
     ensures failed { result ≡ Err (Missed DrumFailed) → HasRisen (D.faults drum.old) (D.faults drum.new) }
-    ensures spoilt { result ≡ Err (Missed (Stopped Odd)) → (m.new ≡ m.old) × ((frames.new ≡ frames.old) × ((out.new ≡ out.old) × (input.new ≡ input.old))) }
+    ensures spoilt { result ≡ Err (Missed (Stopped Odd)) → (m.new ≡ m.old)
+        × ((frames.new ≡ frames.old) × ((out.new ≡ out.old) × (input.new ≡ input.old))) }
 {
     let operation = order.operation();
     match operation {
@@ -133,14 +142,22 @@ fn procedure<D: Drum, S: Source, K: Sink>(
     number: u32,
 ) -> Result<u32, Quit>
     requires place { m.old.place < object.now.words }
-    requires can { CanRead (object.now.words + 1) object.now (seen D.room D.tracks D.journal D.faults drum.old places.old recent.old trace.old) }
+    requires can { CanRead (object.now.words + 1) object.now
+        (seen D.room D.tracks D.journal D.faults drum.old places.old recent.old trace.old) }
     ensures row { (tracks : List (List ℕ)) → D.tracks drum.old ≡ Some tracks → Agrees (Some tracks) places.old.held
-        → (read put taken : List ℕ) × Refers object.now read (seen D.room D.tracks D.journal D.faults drum.old places.old recent.old trace.old) (seen D.room D.tracks D.journal D.faults drum.new places.new recent.new trace.new)
+        → (read put taken : List ℕ) × Refers object.now read
+        (seen D.room D.tracks D.journal D.faults drum.old places.old recent.old trace.old)
+        (seen D.room D.tracks D.journal D.faults drum.new places.new recent.new trace.new)
         × Puts (K.holds out.old) put (K.holds out.new) × Takes (stand_of S.left input.old) taken (stand_of S.left input.new)
-        × ((rest : List ℕ) (l : ℕ) → IsRest (ended input.new) rest → Obeys (needs frames.now.entered (effect (code_in tracks object.now) (length frames.now.words) (regs_of m.old frames.now (taken ++ rest)) Lib l number)) (regs_of m.old frames.now (taken ++ rest)) (regs_of m.new frames.now rest) read put taken result) }
+        × ((rest : List ℕ) (l : ℕ) → IsRest (ended input.new) rest
+        → Obeys (needs frames.now.entered (effect (code_in tracks object.now) (length frames.now.words)
+        (regs_of m.old frames.now (taken ++ rest)) Lib l number)) (regs_of m.old frames.now (taken ++ rest))
+        (regs_of m.new frames.now rest) read put taken result) }
     ensures keeps { Keeps m.old m.new }
     ensures goes { IfOk result (λ next. Goes object.now.words m.old next m.new) }
-    ensures reads { Reads (object.now.words + 1) object.now (seen D.room D.tracks D.journal D.faults drum.old places.old recent.old trace.old) (seen D.room D.tracks D.journal D.faults drum.new places.new recent.new trace.new) }
+    ensures reads { Reads (object.now.words + 1) object.now
+        (seen D.room D.tracks D.journal D.faults drum.old places.old recent.old trace.old)
+        (seen D.room D.tracks D.journal D.faults drum.new places.new recent.new trace.new) }
     ensures same_reference { input.new.source.ghost_name ≡ input.old.source.ghost_name }
     ensures source_later { S.faults (source_of input.old) ≤ S.faults (source_of input.new) }
     ensures source_failed { result ≡ Err Read → HasRisen (S.faults (source_of input.old)) (S.faults (source_of input.new)) }
@@ -176,15 +193,23 @@ fn dispatch<D: Drum>(
 ) -> Result<u32, Miss>
     requires order { IsOrder order }
     requires place { m.old.place < object.now.words }
-    requires can { CanRead (2 * object.now.words + 1) object.now (seen D.room D.tracks D.journal D.faults drum.old places.old recent.old trace.old) }
+    requires can { CanRead (2 * object.now.words + 1) object.now
+        (seen D.room D.tracks D.journal D.faults drum.old places.old recent.old trace.old) }
     requires other { operation ≢ Lib }
     requires kept { IsKept frames.old }
-    ensures row { (tracks : List (List ℕ)) (input : List ℕ) → D.tracks drum.old ≡ Some tracks → Agrees (Some tracks) places.old.held → IsTrue (frames.old.entered || is_start operation)
-        → (refs : List ℕ) × Refers object.now refs (seen D.room D.tracks D.journal D.faults drum.old places.old recent.old trace.old) (seen D.room D.tracks D.journal D.faults drum.new places.new recent.new trace.new) × Does (effect (code_in tracks object.now) (length frames.old.words) (regs_of m.old frames.old input) operation order.level order.address) refs (regs_of m.new frames.new input) result }
+    ensures row { (tracks : List (List ℕ)) (input : List ℕ) → D.tracks drum.old ≡ Some tracks → Agrees (Some tracks) places.old.held
+        → IsTrue (frames.old.entered || is_start operation)
+        → (refs : List ℕ) × Refers object.now refs
+        (seen D.room D.tracks D.journal D.faults drum.old places.old recent.old trace.old)
+        (seen D.room D.tracks D.journal D.faults drum.new places.new recent.new trace.new)
+        × Does (effect (code_in tracks object.now) (length frames.old.words) (regs_of m.old frames.old input) operation order.level
+        order.address) refs (regs_of m.new frames.new input) result }
     ensures keeps { Keeps m.old m.new }
     ensures goes { IfOk result (λ next. Goes object.now.words m.old next m.new) }
     ensures size { length frames.new.words ≡ length frames.old.words }
-    ensures reads { Reads (2 * object.now.words + 1) object.now (seen D.room D.tracks D.journal D.faults drum.old places.old recent.old trace.old) (seen D.room D.tracks D.journal D.faults drum.new places.new recent.new trace.new) }
+    ensures reads { Reads (2 * object.now.words + 1) object.now
+        (seen D.room D.tracks D.journal D.faults drum.old places.old recent.old trace.old)
+        (seen D.room D.tracks D.journal D.faults drum.new places.new recent.new trace.new) }
     ensures failed { result ≡ Err DrumFailed → HasRisen (D.faults drum.old) (D.faults drum.new) }
     ensures odd { result ≡ Err (Stopped Odd) → (m.new ≡ m.old) × (frames.new ≡ frames.old) }
 {
@@ -229,7 +254,9 @@ fn move_on(
     order: Order,
     words: u32,
 ) -> Result<u32, Miss>
-    ensures row { (code input : List ℕ) → frames.old.entered ≡ true → length code ≡ words → is_jump operation ≡ true → Does (effect code (length frames.old.words) (regs_of m.old frames.old input) operation order.level order.address) [] (regs_of m.new frames.new input) result }
+    ensures row { (code input : List ℕ) → frames.old.entered ≡ true → length code ≡ words → is_jump operation ≡ true
+        → Does (effect code (length frames.old.words) (regs_of m.old frames.old input) operation order.level order.address) []
+        (regs_of m.new frames.new input) result }
     ensures keeps { Keeps m.old m.new }
     ensures goes { IfOk result (λ next. Goes words m.old next m.new) }
     ensures size { length frames.new.words ≡ length frames.old.words }
@@ -250,7 +277,9 @@ fn choose_next(
     order: Order,
     words: u32,
 ) -> Result<u32, Stop>
-    ensures row { (code input : List ℕ) → frames.old.entered ≡ true → length code ≡ words → is_jump operation ≡ true → Comes (effect code (length frames.old.words) (regs_of m.old frames.old input) operation order.level order.address) (regs_of m.new frames.new input) result }
+    ensures row { (code input : List ℕ) → frames.old.entered ≡ true → length code ≡ words → is_jump operation ≡ true
+        → Comes (effect code (length frames.old.words) (regs_of m.old frames.old input) operation order.level order.address)
+        (regs_of m.new frames.new input) result }
     ensures keeps { Keeps m.old m.new }
     ensures goes { IfOk result (λ next. Goes words m.old next m.new) }
     ensures size { length frames.new.words ≡ length frames.old.words }
@@ -279,7 +308,9 @@ fn go_on(
 ) -> Result<u32, Miss>
     requires order { IsOrder order }
     requires kept { IsKept frames.old }
-    ensures row { (code input : List ℕ) → IsTrue (frames.old.entered || is_start operation) → length code ≡ words → is_plain operation ≡ true → Does (effect code (length frames.old.words) (regs_of m.old frames.old input) operation order.level order.address) [] (regs_of m.new frames.new input) result }
+    ensures row { (code input : List ℕ) → IsTrue (frames.old.entered || is_start operation) → length code ≡ words
+        → is_plain operation ≡ true → Does (effect code (length frames.old.words) (regs_of m.old frames.old input) operation
+        order.level order.address) [] (regs_of m.new frames.new input) result }
     ensures keeps { Keeps m.old m.new }
     ensures goes { IfOk result (λ next. Goes words m.old next m.new) }
     ensures size { length frames.new.words ≡ length frames.old.words }
@@ -307,11 +338,17 @@ fn long<D: Drum>(
 ) -> Result<u32, Miss>
     requires place { m.old.place < object.now.words }
     requires can { CanRead 1 object.now (seen D.room D.tracks D.journal D.faults drum.old places.old recent.old trace.old) }
-    ensures row { (tracks : List (List ℕ)) (input : List ℕ) (s : State) (l a : ℕ) → D.tracks drum.old ≡ Some tracks → Agrees (Some tracks) places.old.held
-        → (refs : List ℕ) × Refers object.now refs (seen D.room D.tracks D.journal D.faults drum.old places.old recent.old trace.old) (seen D.room D.tracks D.journal D.faults drum.new places.new recent.new trace.new) × Does (effect (code_in tracks object.now) (length s.words) (regs_of m.old s input) Long l a) refs (regs_of m.new s input) result }
+    ensures row { (tracks : List (List ℕ)) (input : List ℕ) (s : State) (l a : ℕ) → D.tracks drum.old ≡ Some tracks
+        → Agrees (Some tracks) places.old.held
+        → (refs : List ℕ) × Refers object.now refs
+        (seen D.room D.tracks D.journal D.faults drum.old places.old recent.old trace.old)
+        (seen D.room D.tracks D.journal D.faults drum.new places.new recent.new trace.new)
+        × Does (effect (code_in tracks object.now) (length s.words) (regs_of m.old s input) Long l a) refs (regs_of m.new s input)
+        result }
     ensures keeps { Keeps m.old m.new }
     ensures goes { IfOk result (λ next. Goes object.now.words m.old next m.new) }
-    ensures reads { Reads 1 object.now (seen D.room D.tracks D.journal D.faults drum.old places.old recent.old trace.old) (seen D.room D.tracks D.journal D.faults drum.new places.new recent.new trace.new) }
+    ensures reads { Reads 1 object.now (seen D.room D.tracks D.journal D.faults drum.old places.old recent.old trace.old)
+        (seen D.room D.tracks D.journal D.faults drum.new places.new recent.new trace.new) }
     ensures failed { result ≡ Err DrumFailed → HasRisen (D.faults drum.old) (D.faults drum.new) }
     ensures odd { result ≡ Err (Stopped Odd) → m.new ≡ m.old }
 {

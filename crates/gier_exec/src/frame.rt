@@ -18,7 +18,8 @@ use gier_frames::{Frames, Halt};
 pub(crate) fn local(frames: &Frames, address: u32) -> Result<u64, Stop>
     ensures small { IfOk result (λ word. word < 2 ^ 40) }
     ensures found { frames.now.entered ≡ true → result ≡ word_of frames.now (frames.now.base + address) }
-    ensures row { (code input : List ℕ) (m : Registers) (go : ℕ → Row) → frames.now.entered ≡ true → Gets (local_row code (length frames.now.words) (regs_of m frames.now input) address go) go result }
+    ensures row { (code input : List ℕ) (m : Registers) (go : ℕ → Row) → frames.now.entered ≡ true
+        → Gets (local_row code (length frames.now.words) (regs_of m frames.now input) address go) go result }
 {
     match frames.here(address) {
         Ok(place) => read(frames, place),
@@ -32,7 +33,8 @@ pub(crate) fn local(frames: &Frames, address: u32) -> Result<u64, Stop>
 pub(crate) fn read(frames: &Frames, place: u64) -> Result<u64, Stop>
     ensures small { IfOk result (λ word. word < 2 ^ 40) }
     ensures found { frames.now.entered ≡ true → result ≡ word_of frames.now place }
-    ensures row { (code input : List ℕ) (m : Registers) (go : ℕ → Row) → frames.now.entered ≡ true → Gets (word_at code (length frames.now.words) (regs_of m frames.now input) place go) go result }
+    ensures row { (code input : List ℕ) (m : Registers) (go : ℕ → Row) → frames.now.entered ≡ true
+        → Gets (word_at code (length frames.now.words) (regs_of m frames.now input) place go) go result }
 {
     match frames.get(place) {
         Ok(word) => Ok(word),
@@ -45,7 +47,9 @@ pub(crate) fn read(frames: &Frames, place: u64) -> Result<u64, Stop>
 #[tactic(auto, using(crate::proofs::Founds::cell_found, crate::proofs::Founds::cell_refused, crate::proofs::Founds::cell_small))]
 pub(crate) fn place_of(frames: &Frames, level: u8, address: u32) -> Result<u64, Stop>
     ensures small { IfOk result (λ place. place < 2 ^ 40) }
-    ensures row { (code input : List ℕ) (m : Registers) (go : ℕ → Row) → frames.now.entered ≡ true → Gets (in_level code (length frames.now.words) (regs_of m frames.now input) level (λ base. go (base + address))) go result }
+    ensures row { (code input : List ℕ) (m : Registers) (go : ℕ → Row) → frames.now.entered ≡ true
+        → Gets (in_level code (length frames.now.words) (regs_of m frames.now input) level (λ base. go (base + address))) go
+        result }
 {
     match frames.cell(level, address) {
         Ok(place) => as_word(place),
@@ -83,7 +87,9 @@ pub(crate) fn as_word(place: u64) -> Result<u64, Stop>
 pub(crate) fn read_pair(frames: &Frames, level: u8, address: u32) -> Result<(u64, u64), Stop>
     ensures first { IfOk result (λ pair. pair.0 < 2 ^ 40) }
     ensures second { IfOk result (λ pair. pair.1 < 2 ^ 40) }
-    ensures row { (code input : List ℕ) (m : Registers) (go : ℕ → ℕ → Row) → frames.now.entered ≡ true → Gets (cell_pair code (length frames.now.words) (regs_of m frames.now input) level address go) (λ pair. go pair.0 pair.1) result }
+    ensures row { (code input : List ℕ) (m : Registers) (go : ℕ → ℕ → Row) → frames.now.entered ≡ true
+        → Gets (cell_pair code (length frames.now.words) (regs_of m frames.now input) level address go) (λ pair. go pair.0 pair.1)
+        result }
 {
     let place = match place_of(frames, level, address) {
         Ok(place) => place,
@@ -105,7 +111,8 @@ pub(crate) fn write(frames: &mut Frames, place: u64, word: u64) -> Result<(), St
     requires { word < 2 ^ 40 }
     ensures size { length frames.new.words ≡ length frames.old.words }
     ensures odd { OnErr result (frames.new ≡ frames.old) }
-    ensures writes { frames.old.entered ≡ true → place < length frames.old.words → (result ≡ Ok tt) × (frames.new ≡ written frames.old place word) }
+    ensures writes { frames.old.entered ≡ true → place < length frames.old.words → (result ≡ Ok tt)
+        × (frames.new ≡ written frames.old place word) }
     ensures refused { length frames.old.words ≤ place → result ≡ Err Odd }
 {
     match frames.set(place, word) {
@@ -130,7 +137,9 @@ pub(crate) fn can_enter(frames: &Frames, room: u32, outer: u64, from: u32, count
 /// Whether a label of the activation at `base` can be gone to.
 pub(crate) fn can_go(frames: &Frames, base: u64) -> bool
     requires { base < 2 ^ 40 }
-    ensures { frames.now.entered ≡ true → result ≡ (nat_lt (base + 2) (length frames.now.words) && nat_le (slice_index frames.now.words (base + 2)) (length frames.now.words)) }
+    ensures { frames.now.entered ≡ true → result
+        ≡ (nat_lt (base + 2) (length frames.now.words) && nat_le (slice_index frames.now.words (base + 2))
+        (length frames.now.words)) }
 {
     match frames.get(base + END) {
         Ok(top) => top == 0 || frames.get(top - 1).is_ok(),

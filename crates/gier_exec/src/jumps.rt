@@ -17,7 +17,8 @@ use gier_frames::Frames;
 /// JUMP: goes on at an address ahead.
 #[inline(always)]
 pub(crate) fn jump(m: &Machine, address: u32, words: u32) -> Result<u32, Stop>
-    ensures row { (code input : List ℕ) (s : State) → length code ≡ words → Comes (jumps code (length s.words) (regs_of m.now s input) address) (regs_of m.now s input) result }
+    ensures row { (code input : List ℕ) (s : State) → length code ≡ words
+        → Comes (jumps code (length s.words) (regs_of m.now s input) address) (regs_of m.now s input) result }
     ensures goes { IfOk result (λ next. Goes words m.now next m.now) }
 {
     if address > m.place() {
@@ -30,7 +31,8 @@ pub(crate) fn jump(m: &Machine, address: u32, words: u32) -> Result<u32, Stop>
 /// FALSE: where R is 0, goes on at an address ahead.
 #[inline(always)]
 pub(crate) fn jump_if_false(m: &Machine, address: u32, words: u32) -> Result<u32, Stop>
-    ensures row { (code input : List ℕ) (s : State) (l : ℕ) → length code ≡ words → Comes (effect code (length s.words) (regs_of m.now s input) False l address) (regs_of m.now s input) result }
+    ensures row { (code input : List ℕ) (s : State) (l : ℕ) → length code ≡ words
+        → Comes (effect code (length s.words) (regs_of m.now s input) False l address) (regs_of m.now s input) result }
     ensures goes { IfOk result (λ next. Goes words m.now next m.now) }
 {
     if m.r() == 0 {
@@ -44,7 +46,9 @@ pub(crate) fn jump_if_false(m: &Machine, address: u32, words: u32) -> Result<u32
 #[inline(always)]
 #[tactic(auto, using(crate::proofs::Falling::paid_falls))]
 pub(crate) fn turn(m: &mut Machine, frames: &Frames, address: u32, words: u32) -> Result<u32, Stop>
-    ensures row { (code input : List ℕ) (l : ℕ) → frames.now.entered ≡ true → length code ≡ words → Comes (effect code (length frames.now.words) (regs_of m.old frames.now input) Turn l address) (regs_of m.new frames.now input) result }
+    ensures row { (code input : List ℕ) (l : ℕ) → frames.now.entered ≡ true → length code ≡ words
+        → Comes (effect code (length frames.now.words) (regs_of m.old frames.now input) Turn l address)
+        (regs_of m.new frames.now input) result }
     ensures keeps { Keeps m.old m.new }
     ensures goes { IfOk result (λ next. Goes words m.old next m.new) }
     ensures odd { result ≡ Err Odd → m.new ≡ m.old }
@@ -66,7 +70,9 @@ pub(crate) fn turn(m: &mut Machine, frames: &Frames, address: u32, words: u32) -
 
 /// GO: where R is not 0, charges a step and goes to the label that R and Q are.
 pub(crate) fn go(m: &mut Machine, frames: &mut Frames, words: u32) -> Result<u32, Stop>
-    ensures row { (code input : List ℕ) (l a : ℕ) → frames.old.entered ≡ true → length code ≡ words → Comes (effect code (length frames.old.words) (regs_of m.old frames.old input) Go l a) (regs_of m.new frames.new input) result }
+    ensures row { (code input : List ℕ) (l a : ℕ) → frames.old.entered ≡ true → length code ≡ words
+        → Comes (effect code (length frames.old.words) (regs_of m.old frames.old input) Go l a) (regs_of m.new frames.new input)
+        result }
     ensures keeps { Keeps m.old m.new }
     ensures goes { IfOk result (λ next. Goes words m.old next m.new) }
     ensures size { length frames.new.words ≡ length frames.old.words }
@@ -84,7 +90,8 @@ pub(crate) fn go(m: &mut Machine, frames: &mut Frames, words: u32) -> Result<u32
 #[tactic(auto, using(crate::proofs::Falling::paid_falls))]
 fn go_to(m: &mut Machine, frames: &mut Frames, next: u32, words: u32) -> Result<u32, Stop>
     requires { next < words }
-    ensures row { (code input : List ℕ) → frames.old.entered ≡ true → length code ≡ words → next ≡ m.old.r → Comes (leaps code (length frames.old.words) (regs_of m.old frames.old input)) (regs_of m.new frames.new input) result }
+    ensures row { (code input : List ℕ) → frames.old.entered ≡ true → length code ≡ words → next ≡ m.old.r
+        → Comes (leaps code (length frames.old.words) (regs_of m.old frames.old input)) (regs_of m.new frames.new input) result }
     ensures keeps { Keeps m.old m.new }
     ensures goes { IfOk result (λ at. Goes words m.old at m.new) }
     ensures size { length frames.new.words ≡ length frames.old.words }

@@ -59,11 +59,18 @@ pub(crate) fn compare<D: Drum>(
 ) -> Result<u32, Miss>
     requires order { IsOrder order }
     requires place { m.now.place < object.now.words }
-    requires can { CanRead (2 * object.now.words) object.now (seen D.room D.tracks D.journal D.faults drum.old places.old recent.old trace.old) }
-    ensures row { (tracks : List (List ℕ)) (input : List ℕ) → D.tracks drum.old ≡ Some tracks → Agrees (Some tracks) places.old.held → frames.now.entered ≡ true
-        → Acts object.now (seen D.room D.tracks D.journal D.faults drum.old places.old recent.old trace.old) (seen D.room D.tracks D.journal D.faults drum.new places.new recent.new trace.new) (effect (code_in tracks object.now) (length frames.now.words) (regs_of m.now frames.now input) Agree order.level order.address) (regs_of m.now frames.now input) result }
+    requires can { CanRead (2 * object.now.words) object.now
+        (seen D.room D.tracks D.journal D.faults drum.old places.old recent.old trace.old) }
+    ensures row { (tracks : List (List ℕ)) (input : List ℕ) → D.tracks drum.old ≡ Some tracks → Agrees (Some tracks) places.old.held
+        → frames.now.entered ≡ true
+        → Acts object.now (seen D.room D.tracks D.journal D.faults drum.old places.old recent.old trace.old)
+        (seen D.room D.tracks D.journal D.faults drum.new places.new recent.new trace.new)
+        (effect (code_in tracks object.now) (length frames.now.words) (regs_of m.now frames.now input) Agree order.level
+        order.address) (regs_of m.now frames.now input) result }
     ensures goes { IfOk result (λ next. Goes object.now.words m.now next m.now) }
-    ensures reads { Reads (2 * object.now.words) object.now (seen D.room D.tracks D.journal D.faults drum.old places.old recent.old trace.old) (seen D.room D.tracks D.journal D.faults drum.new places.new recent.new trace.new) }
+    ensures reads { Reads (2 * object.now.words) object.now
+        (seen D.room D.tracks D.journal D.faults drum.old places.old recent.old trace.old)
+        (seen D.room D.tracks D.journal D.faults drum.new places.new recent.new trace.new) }
     ensures failed { result ≡ Err DrumFailed → HasRisen (D.faults drum.old) (D.faults drum.new) }
 {
     let list = m.behind();
@@ -102,7 +109,9 @@ pub(crate) fn compare<D: Drum>(
 // The address in cell, which is that of a procedure that was handed over.
 fn formal_address(frames: &Frames, order: Order) -> Result<u64, Stop>
     requires { IsOrder order }
-    ensures row { (code input : List ℕ) (m : Registers) (go : ℕ → Row) → frames.now.entered ≡ true → Gets (cell_word code (length frames.now.words) (regs_of m frames.now input) order.level order.address (λ place word. go word)) go result }
+    ensures row { (code input : List ℕ) (m : Registers) (go : ℕ → Row) → frames.now.entered ≡ true
+        → Gets (cell_word code (length frames.now.words) (regs_of m frames.now input) order.level order.address
+        (λ place word. go word)) go result }
     ensures small { IfOk result (λ address. address < 2 ^ 40) }
 {
     match place_of(frames, order.level, order.address) {
@@ -122,11 +131,18 @@ fn match_count<D: Drum>(
     count: u64,
 ) -> Result<(), Miss>
     requires can { CanRead 1 object.now (seen D.room D.tracks D.journal D.faults drum.old places.old recent.old trace.old) }
-    ensures row { (tracks : List (List ℕ)) (size : ℕ) (regs : Regs) (list : ℕ) → D.tracks drum.old ≡ Some tracks → Agrees (Some tracks) places.old.held
-        → Searches object.now (seen D.room D.tracks D.journal D.faults drum.old places.old recent.old trace.old) (seen D.room D.tracks D.journal D.faults drum.new places.new recent.new trace.new) (reads_order (code_in tracks object.now) size regs address (λ head. agrees_with (code_in tracks object.now) size regs address list count (handed head))) regs (λ done. needs (is_address (code_in tracks object.now) size regs (list + groups_for count)) (agrees_row (code_in tracks object.now) size regs (groups_for count) (address + 1) list count)) result }
+    ensures row { (tracks : List (List ℕ)) (size : ℕ) (regs : Regs) (list : ℕ) → D.tracks drum.old ≡ Some tracks
+        → Agrees (Some tracks) places.old.held
+        → Searches object.now (seen D.room D.tracks D.journal D.faults drum.old places.old recent.old trace.old)
+        (seen D.room D.tracks D.journal D.faults drum.new places.new recent.new trace.new)
+        (reads_order (code_in tracks object.now) size regs address
+        (λ head. agrees_with (code_in tracks object.now) size regs address list count (handed head))) regs
+        (λ done. needs (is_address (code_in tracks object.now) size regs (list + groups_for count))
+        (agrees_row (code_in tracks object.now) size regs (groups_for count) (address + 1) list count)) result }
     ensures few { OnOk result (count ≤ 80) }
     ensures some { OnOk result (1 ≤ count) }
-    ensures reads { Reads 1 object.now (seen D.room D.tracks D.journal D.faults drum.old places.old recent.old trace.old) (seen D.room D.tracks D.journal D.faults drum.new places.new recent.new trace.new) }
+    ensures reads { Reads 1 object.now (seen D.room D.tracks D.journal D.faults drum.old places.old recent.old trace.old)
+        (seen D.room D.tracks D.journal D.faults drum.new places.new recent.new trace.new) }
     ensures failed { result ≡ Err DrumFailed → HasRisen (D.faults drum.old) (D.faults drum.new) }
 {
     let head = match fetch_order(object, drum, places, recent, trace, address) {
@@ -160,10 +176,17 @@ fn compare_groups<D: Drum>(
     requires few { count ≤ 255 }
     requires formals { formals ≤ 2 ^ 40 }
     requires actuals { actuals ≤ 2 ^ 40 }
-    requires can { CanRead (2 * ((count + 9) / 10)) object.now (seen D.room D.tracks D.journal D.faults drum.old places.old recent.old trace.old) }
-    ensures row { (tracks : List (List ℕ)) (size : ℕ) (regs : Regs) → D.tracks drum.old ≡ Some tracks → Agrees (Some tracks) places.old.held
-        → Searches object.now (seen D.room D.tracks D.journal D.faults drum.old places.old recent.old trace.old) (seen D.room D.tracks D.journal D.faults drum.new places.new recent.new trace.new) (agrees_row (code_in tracks object.now) size regs (groups_for count) formals actuals count) regs (λ done. goes_row (code_in tracks object.now) size regs (actuals + groups_for count) regs) result }
-    ensures reads { Reads (2 * ((count + 9) / 10)) object.now (seen D.room D.tracks D.journal D.faults drum.old places.old recent.old trace.old) (seen D.room D.tracks D.journal D.faults drum.new places.new recent.new trace.new) }
+    requires can { CanRead (2 * ((count + 9) / 10)) object.now
+        (seen D.room D.tracks D.journal D.faults drum.old places.old recent.old trace.old) }
+    ensures row { (tracks : List (List ℕ)) (size : ℕ) (regs : Regs) → D.tracks drum.old ≡ Some tracks
+        → Agrees (Some tracks) places.old.held
+        → Searches object.now (seen D.room D.tracks D.journal D.faults drum.old places.old recent.old trace.old)
+        (seen D.room D.tracks D.journal D.faults drum.new places.new recent.new trace.new)
+        (agrees_row (code_in tracks object.now) size regs (groups_for count) formals actuals count) regs
+        (λ done. goes_row (code_in tracks object.now) size regs (actuals + groups_for count) regs) result }
+    ensures reads { Reads (2 * ((count + 9) / 10)) object.now
+        (seen D.room D.tracks D.journal D.faults drum.old places.old recent.old trace.old)
+        (seen D.room D.tracks D.journal D.faults drum.new places.new recent.new trace.new) }
     ensures failed { result ≡ Err DrumFailed → HasRisen (D.faults drum.old) (D.faults drum.new) }
 {
     for group in 0..count.div_ceil(GROUP) {
@@ -196,9 +219,13 @@ fn compare_group<D: Drum>(
     left: u64,
 ) -> Result<(), Miss>
     requires can { CanRead 2 object.now (seen D.room D.tracks D.journal D.faults drum.old places.old recent.old trace.old) }
-    ensures row { (tracks : List (List ℕ)) (regs : Regs) (next : Row) → D.tracks drum.old ≡ Some tracks → Agrees (Some tracks) places.old.held
-        → Searches object.now (seen D.room D.tracks D.journal D.faults drum.old places.old recent.old trace.old) (seen D.room D.tracks D.journal D.faults drum.new places.new recent.new trace.new) (matches (code_in tracks object.now) regs formals actuals left next) regs (λ done. next) result }
-    ensures reads { Reads 2 object.now (seen D.room D.tracks D.journal D.faults drum.old places.old recent.old trace.old) (seen D.room D.tracks D.journal D.faults drum.new places.new recent.new trace.new) }
+    ensures row { (tracks : List (List ℕ)) (regs : Regs) (next : Row) → D.tracks drum.old ≡ Some tracks
+        → Agrees (Some tracks) places.old.held
+        → Searches object.now (seen D.room D.tracks D.journal D.faults drum.old places.old recent.old trace.old)
+        (seen D.room D.tracks D.journal D.faults drum.new places.new recent.new trace.new)
+        (matches (code_in tracks object.now) regs formals actuals left next) regs (λ done. next) result }
+    ensures reads { Reads 2 object.now (seen D.room D.tracks D.journal D.faults drum.old places.old recent.old trace.old)
+        (seen D.room D.tracks D.journal D.faults drum.new places.new recent.new trace.new) }
     ensures failed { result ≡ Err DrumFailed → HasRisen (D.faults drum.old) (D.faults drum.new) }
 {
     let formals = match fetch_packed(
@@ -247,9 +274,13 @@ fn fetch_packed<D: Drum>(
     first: u8,
 ) -> Result<u64, Miss>
     requires can { CanRead 1 object.now (seen D.room D.tracks D.journal D.faults drum.old places.old recent.old trace.old) }
-    ensures row { (tracks : List (List ℕ)) (regs : Regs) (go : ℕ → Row) → D.tracks drum.old ≡ Some tracks → Agrees (Some tracks) places.old.held
-        → Searches object.now (seen D.room D.tracks D.journal D.faults drum.old places.old recent.old trace.old) (seen D.room D.tracks D.journal D.faults drum.new places.new recent.new trace.new) (reads_row (code_in tracks object.now) address (λ word. needs (is_packed first left word) (go word))) regs go result }
-    ensures reads { Reads 1 object.now (seen D.room D.tracks D.journal D.faults drum.old places.old recent.old trace.old) (seen D.room D.tracks D.journal D.faults drum.new places.new recent.new trace.new) }
+    ensures row { (tracks : List (List ℕ)) (regs : Regs) (go : ℕ → Row) → D.tracks drum.old ≡ Some tracks
+        → Agrees (Some tracks) places.old.held
+        → Searches object.now (seen D.room D.tracks D.journal D.faults drum.old places.old recent.old trace.old)
+        (seen D.room D.tracks D.journal D.faults drum.new places.new recent.new trace.new)
+        (reads_row (code_in tracks object.now) address (λ word. needs (is_packed first left word) (go word))) regs go result }
+    ensures reads { Reads 1 object.now (seen D.room D.tracks D.journal D.faults drum.old places.old recent.old trace.old)
+        (seen D.room D.tracks D.journal D.faults drum.new places.new recent.new trace.new) }
     ensures failed { result ≡ Err DrumFailed → HasRisen (D.faults drum.old) (D.faults drum.new) }
 {
     let word = match fetch(object, drum, places, recent, trace, address) {
@@ -309,11 +340,16 @@ pub(crate) fn look_at_kind<D: Drum>(
     requires order { IsOrder order }
     requires place { m.old.place < object.now.words }
     requires can { CanRead 2 object.now (seen D.room D.tracks D.journal D.faults drum.old places.old recent.old trace.old) }
-    ensures row { (tracks : List (List ℕ)) (input : List ℕ) → D.tracks drum.old ≡ Some tracks → Agrees (Some tracks) places.old.held → frames.now.entered ≡ true
-        → Acts object.now (seen D.room D.tracks D.journal D.faults drum.old places.old recent.old trace.old) (seen D.room D.tracks D.journal D.faults drum.new places.new recent.new trace.new) (effect (code_in tracks object.now) (length frames.now.words) (regs_of m.old frames.now input) ByVal order.level order.address) (regs_of m.new frames.now input) result }
+    ensures row { (tracks : List (List ℕ)) (input : List ℕ) → D.tracks drum.old ≡ Some tracks → Agrees (Some tracks) places.old.held
+        → frames.now.entered ≡ true
+        → Acts object.now (seen D.room D.tracks D.journal D.faults drum.old places.old recent.old trace.old)
+        (seen D.room D.tracks D.journal D.faults drum.new places.new recent.new trace.new)
+        (effect (code_in tracks object.now) (length frames.now.words) (regs_of m.old frames.now input) ByVal order.level
+        order.address) (regs_of m.new frames.now input) result }
     ensures keeps { Keeps m.old m.new }
     ensures goes { IfOk result (λ next. Goes object.now.words m.old next m.new) }
-    ensures reads { Reads 2 object.now (seen D.room D.tracks D.journal D.faults drum.old places.old recent.old trace.old) (seen D.room D.tracks D.journal D.faults drum.new places.new recent.new trace.new) }
+    ensures reads { Reads 2 object.now (seen D.room D.tracks D.journal D.faults drum.old places.old recent.old trace.old)
+        (seen D.room D.tracks D.journal D.faults drum.new places.new recent.new trace.new) }
     ensures failed { result ≡ Err DrumFailed → HasRisen (D.faults drum.old) (D.faults drum.new) }
     ensures odd { result ≡ Err (Stopped Odd) → m.new ≡ m.old }
 {
@@ -357,9 +393,14 @@ fn fetch_kind<D: Drum>(
     requires few { count ≤ 80 }
     requires list { list ≤ 2 ^ 40 }
     requires can { CanRead 1 object.now (seen D.room D.tracks D.journal D.faults drum.old places.old recent.old trace.old) }
-    ensures row { (tracks : List (List ℕ)) (regs : Regs) (go : ℕ → Row) → D.tracks drum.old ≡ Some tracks → Agrees (Some tracks) places.old.held
-        → Searches object.now (seen D.room D.tracks D.journal D.faults drum.old places.old recent.old trace.old) (seen D.room D.tracks D.journal D.faults drum.new places.new recent.new trace.new) (reads_row (code_in tracks object.now) (list + at / 10) (λ word. needs (is_packed 1 (count - at / 10 * 10) word) (go (kind_in word (at % 10))))) regs go result }
-    ensures reads { Reads 1 object.now (seen D.room D.tracks D.journal D.faults drum.old places.old recent.old trace.old) (seen D.room D.tracks D.journal D.faults drum.new places.new recent.new trace.new) }
+    ensures row { (tracks : List (List ℕ)) (regs : Regs) (go : ℕ → Row) → D.tracks drum.old ≡ Some tracks
+        → Agrees (Some tracks) places.old.held
+        → Searches object.now (seen D.room D.tracks D.journal D.faults drum.old places.old recent.old trace.old)
+        (seen D.room D.tracks D.journal D.faults drum.new places.new recent.new trace.new)
+        (reads_row (code_in tracks object.now) (list + at / 10)
+        (λ word. needs (is_packed 1 (count - at / 10 * 10) word) (go (kind_in word (at % 10))))) regs go result }
+    ensures reads { Reads 1 object.now (seen D.room D.tracks D.journal D.faults drum.old places.old recent.old trace.old)
+        (seen D.room D.tracks D.journal D.faults drum.new places.new recent.new trace.new) }
     ensures failed { result ≡ Err DrumFailed → HasRisen (D.faults drum.old) (D.faults drum.new) }
 {
     let group = at / GROUP;

@@ -67,14 +67,22 @@ pub(crate) fn library<D: Drum, S: Source, K: Sink>(
     out: &mut K,
     number: u32,
 ) -> Result<(), Quit>
-    requires can { CanRead (object.now.words + 1) object.now (seen D.room D.tracks D.journal D.faults drum.old places.old recent.old trace.old) }
-    ensures row { (tracks : List (List ℕ)) → D.tracks drum.old ≡ Some tracks → Agrees (Some tracks) places.old.held → m.old.place + 1 < object.now.words
-        → (read put taken : List ℕ) × Refers object.now read (seen D.room D.tracks D.journal D.faults drum.old places.old recent.old trace.old) (seen D.room D.tracks D.journal D.faults drum.new places.new recent.new trace.new)
+    requires can { CanRead (object.now.words + 1) object.now
+        (seen D.room D.tracks D.journal D.faults drum.old places.old recent.old trace.old) }
+    ensures row { (tracks : List (List ℕ)) → D.tracks drum.old ≡ Some tracks → Agrees (Some tracks) places.old.held
+        → m.old.place + 1 < object.now.words
+        → (read put taken : List ℕ) × Refers object.now read
+        (seen D.room D.tracks D.journal D.faults drum.old places.old recent.old trace.old)
+        (seen D.room D.tracks D.journal D.faults drum.new places.new recent.new trace.new)
         × Puts (K.holds out.old) put (K.holds out.new) × Takes (stand_of S.left input.old) taken (stand_of S.left input.new)
-        × ((s : State) (rest : List ℕ) → IsRest (ended input.new) rest → Obeys (procedure (code_in tracks object.now) (length s.words) (regs_of m.old s (taken ++ rest)) number) (regs_of m.old s (taken ++ rest)) (regs_of m.new s rest) read put taken (on_from m.old.place result)) }
+        × ((s : State) (rest : List ℕ) → IsRest (ended input.new) rest
+        → Obeys (procedure (code_in tracks object.now) (length s.words) (regs_of m.old s (taken ++ rest)) number)
+        (regs_of m.old s (taken ++ rest)) (regs_of m.new s rest) read put taken (on_from m.old.place result)) }
     ensures keeps { Keeps m.old m.new }
     ensures lighter { weight m.new ≤ weight m.old }
-    ensures reads { Reads (object.now.words + 1) object.now (seen D.room D.tracks D.journal D.faults drum.old places.old recent.old trace.old) (seen D.room D.tracks D.journal D.faults drum.new places.new recent.new trace.new) }
+    ensures reads { Reads (object.now.words + 1) object.now
+        (seen D.room D.tracks D.journal D.faults drum.old places.old recent.old trace.old)
+        (seen D.room D.tracks D.journal D.faults drum.new places.new recent.new trace.new) }
     ensures same_reference { input.new.source.ghost_name ≡ input.old.source.ghost_name }
     ensures source_later { S.faults (source_of input.old) ≤ S.faults (source_of input.new) }
     ensures source_failed { result ≡ Err Read → HasRisen (S.faults (source_of input.old)) (S.faults (source_of input.new)) }
@@ -153,7 +161,8 @@ fn print_bytes<K: Sink>(bytes: &[u8], out: &mut K) -> Result<(), Quit>
 
 // `ininteger`.
 fn take_integer<S: Source>(m: &mut Machine, input: &mut Data<S>) -> Result<(), Quit>
-    ensures takes { (bytes : List ℕ) × Takes (stand_of S.left input.old) bytes (stand_of S.left input.new) × Receives integer_read bytes (ended input.new) m.old result m.new }
+    ensures takes { (bytes : List ℕ) × Takes (stand_of S.left input.old) bytes (stand_of S.left input.new)
+        × Receives integer_read bytes (ended input.new) m.old result m.new }
     ensures homely { result ≢ Err (Missed DrumFailed) }
     ensures no_write { result ≢ Err Write }
     ensures keeps { Keeps m.old m.new }
@@ -175,7 +184,8 @@ fn take_integer<S: Source>(m: &mut Machine, input: &mut Data<S>) -> Result<(), Q
 
 // `inchar`.
 fn take_character<S: Source>(m: &mut Machine, input: &mut Data<S>) -> Result<(), Quit>
-    ensures takes { (bytes : List ℕ) × Takes (stand_of S.left input.old) bytes (stand_of S.left input.new) × Receives character_read bytes (ended input.new) m.old result m.new }
+    ensures takes { (bytes : List ℕ) × Takes (stand_of S.left input.old) bytes (stand_of S.left input.new)
+        × Receives character_read bytes (ended input.new) m.old result m.new }
     ensures homely { result ≢ Err (Missed DrumFailed) }
     ensures no_write { result ≢ Err Write }
     ensures keeps { Keeps m.old m.new }
@@ -224,12 +234,19 @@ fn print_text<D: Drum, K: Sink>(
     address: u64,
 ) -> Result<(), Quit>
     requires address { address < 2 ^ 40 }
-    requires can { CanRead (object.now.words + 1) object.now (seen D.room D.tracks D.journal D.faults drum.old places.old recent.old trace.old) }
+    requires can { CanRead (object.now.words + 1) object.now
+        (seen D.room D.tracks D.journal D.faults drum.old places.old recent.old trace.old) }
     ensures row { (tracks : List (List ℕ)) → D.tracks drum.old ≡ Some tracks → Agrees (Some tracks) places.old.held
-        → (read put : List ℕ) × Refers object.now read (seen D.room D.tracks D.journal D.faults drum.old places.old recent.old trace.old) (seen D.room D.tracks D.journal D.faults drum.new places.new recent.new trace.new) × Puts (K.holds out.old) put (K.holds out.new)
-        × ((size : ℕ) (regs : Regs) → PrintsOn (prints_string (code_in tracks object.now) size regs address) (on (code_in tracks object.now) size regs regs) read put result) }
+        → (read put : List ℕ) × Refers object.now read
+        (seen D.room D.tracks D.journal D.faults drum.old places.old recent.old trace.old)
+        (seen D.room D.tracks D.journal D.faults drum.new places.new recent.new trace.new)
+        × Puts (K.holds out.old) put (K.holds out.new)
+        × ((size : ℕ) (regs : Regs) → PrintsOn (prints_string (code_in tracks object.now) size regs address)
+        (on (code_in tracks object.now) size regs regs) read put result) }
     ensures no_read { result ≢ Err Read }
-    ensures reads { Reads (object.now.words + 1) object.now (seen D.room D.tracks D.journal D.faults drum.old places.old recent.old trace.old) (seen D.room D.tracks D.journal D.faults drum.new places.new recent.new trace.new) }
+    ensures reads { Reads (object.now.words + 1) object.now
+        (seen D.room D.tracks D.journal D.faults drum.old places.old recent.old trace.old)
+        (seen D.room D.tracks D.journal D.faults drum.new places.new recent.new trace.new) }
     ensures sink_later { K.faults out.old ≤ K.faults out.new }
     ensures sink_failed { result ≡ Err Write → HasRisen (K.faults out.old) (K.faults out.new) }
     ensures failed { result ≡ Err (Missed DrumFailed) → HasRisen (D.faults drum.old) (D.faults drum.new) }
@@ -267,12 +284,19 @@ fn print_words<D: Drum, K: Sink>(
 ) -> Result<(), Quit>
     requires length { length < 2 ^ 40 }
     requires within { address + (length + 4) / 5 ≤ object.now.words }
-    requires can { CanRead ((length + 4) / 5) object.now (seen D.room D.tracks D.journal D.faults drum.old places.old recent.old trace.old) }
+    requires can { CanRead ((length + 4) / 5) object.now
+        (seen D.room D.tracks D.journal D.faults drum.old places.old recent.old trace.old) }
     ensures row { (tracks : List (List ℕ)) → D.tracks drum.old ≡ Some tracks → Agrees (Some tracks) places.old.held
-        → (read put : List ℕ) × Refers object.now read (seen D.room D.tracks D.journal D.faults drum.old places.old recent.old trace.old) (seen D.room D.tracks D.journal D.faults drum.new places.new recent.new trace.new) × Puts (K.holds out.old) put (K.holds out.new)
-        × ((size : ℕ) (regs : Regs) → PrintsOn (prints_words (code_in tracks object.now) size regs ((length + 4) / 5) address length) (on (code_in tracks object.now) size regs regs) read put result) }
+        → (read put : List ℕ) × Refers object.now read
+        (seen D.room D.tracks D.journal D.faults drum.old places.old recent.old trace.old)
+        (seen D.room D.tracks D.journal D.faults drum.new places.new recent.new trace.new)
+        × Puts (K.holds out.old) put (K.holds out.new)
+        × ((size : ℕ) (regs : Regs) → PrintsOn (prints_words (code_in tracks object.now) size regs ((length + 4) / 5) address
+        length) (on (code_in tracks object.now) size regs regs) read put result) }
     ensures no_read { result ≢ Err Read }
-    ensures reads { Reads ((length + 4) / 5) object.now (seen D.room D.tracks D.journal D.faults drum.old places.old recent.old trace.old) (seen D.room D.tracks D.journal D.faults drum.new places.new recent.new trace.new) }
+    ensures reads { Reads ((length + 4) / 5) object.now
+        (seen D.room D.tracks D.journal D.faults drum.old places.old recent.old trace.old)
+        (seen D.room D.tracks D.journal D.faults drum.new places.new recent.new trace.new) }
     ensures sink_later { K.faults out.old ≤ K.faults out.new }
     ensures sink_failed { result ≡ Err Write → HasRisen (K.faults out.old) (K.faults out.new) }
     ensures failed { result ≡ Err (Missed DrumFailed) → HasRisen (D.faults drum.old) (D.faults drum.new) }
@@ -309,10 +333,15 @@ fn print_word<D: Drum, K: Sink>(
 ) -> Result<(), Quit>
     requires can { CanRead 1 object.now (seen D.room D.tracks D.journal D.faults drum.old places.old recent.old trace.old) }
     ensures row { (tracks : List (List ℕ)) → D.tracks drum.old ≡ Some tracks → Agrees (Some tracks) places.old.held
-        → (read put : List ℕ) × Refers object.now read (seen D.room D.tracks D.journal D.faults drum.old places.old recent.old trace.old) (seen D.room D.tracks D.journal D.faults drum.new places.new recent.new trace.new) × Puts (K.holds out.old) put (K.holds out.new)
-        × ((go : Row) → PrintsOn (reads (code_in tracks object.now) address (λ word. behind_bytes (take (min left piece) (bytes_in word)) go)) go read put result) }
+        → (read put : List ℕ) × Refers object.now read
+        (seen D.room D.tracks D.journal D.faults drum.old places.old recent.old trace.old)
+        (seen D.room D.tracks D.journal D.faults drum.new places.new recent.new trace.new)
+        × Puts (K.holds out.old) put (K.holds out.new)
+        × ((go : Row) → PrintsOn (reads (code_in tracks object.now) address
+        (λ word. behind_bytes (take (min left piece) (bytes_in word)) go)) go read put result) }
     ensures no_read { result ≢ Err Read }
-    ensures reads { Reads 1 object.now (seen D.room D.tracks D.journal D.faults drum.old places.old recent.old trace.old) (seen D.room D.tracks D.journal D.faults drum.new places.new recent.new trace.new) }
+    ensures reads { Reads 1 object.now (seen D.room D.tracks D.journal D.faults drum.old places.old recent.old trace.old)
+        (seen D.room D.tracks D.journal D.faults drum.new places.new recent.new trace.new) }
     ensures sink_later { K.faults out.old ≤ K.faults out.new }
     ensures sink_failed { result ≡ Err Write → HasRisen (K.faults out.old) (K.faults out.new) }
     ensures failed { result ≡ Err (Missed DrumFailed) → HasRisen (D.faults drum.old) (D.faults drum.new) }

@@ -36,10 +36,14 @@ pub(crate) fn read_word<D: Drum>(
 ) -> Result<u64, Failed>
     requires can { CanRead 1 object.now (seen D.room D.tracks D.journal D.faults drum.old places.old recent.old trace.old) }
     requires within { address < object.now.words }
-    ensures reads { Reads 1 object.now (seen D.room D.tracks D.journal D.faults drum.old places.old recent.old trace.old) (seen D.room D.tracks D.journal D.faults drum.new places.new recent.new trace.new) }
+    ensures reads { Reads 1 object.now (seen D.room D.tracks D.journal D.faults drum.old places.old recent.old trace.old)
+        (seen D.room D.tracks D.journal D.faults drum.new places.new recent.new trace.new) }
     ensures small { IfOk result (λ word. word < 2 ^ 40) }
-    ensures refers { Refers object.now (read_at address result) (seen D.room D.tracks D.journal D.faults drum.old places.old recent.old trace.old) (seen D.room D.tracks D.journal D.faults drum.new places.new recent.new trace.new) }
-    ensures word { (tracks : List (List ℕ)) → D.tracks drum.old ≡ Some tracks → Agrees (Some tracks) places.old.held → IfOk result (λ word. word ≡ word_in tracks object.now address) }
+    ensures refers { Refers object.now (read_at address result)
+        (seen D.room D.tracks D.journal D.faults drum.old places.old recent.old trace.old)
+        (seen D.room D.tracks D.journal D.faults drum.new places.new recent.new trace.new) }
+    ensures word { (tracks : List (List ℕ)) → D.tracks drum.old ≡ Some tracks → Agrees (Some tracks) places.old.held
+        → IfOk result (λ word. word ≡ word_in tracks object.now address) }
     ensures cause { HasCause (D.faults drum.old) (D.faults drum.new) result }
 {
     let track = address / TRACK;
@@ -64,10 +68,14 @@ pub(crate) fn fetch<D: Drum>(
     address: u64,
 ) -> Result<u64, Miss>
     requires can { CanRead 1 object.now (seen D.room D.tracks D.journal D.faults drum.old places.old recent.old trace.old) }
-    ensures reads { Reads 1 object.now (seen D.room D.tracks D.journal D.faults drum.old places.old recent.old trace.old) (seen D.room D.tracks D.journal D.faults drum.new places.new recent.new trace.new) }
+    ensures reads { Reads 1 object.now (seen D.room D.tracks D.journal D.faults drum.old places.old recent.old trace.old)
+        (seen D.room D.tracks D.journal D.faults drum.new places.new recent.new trace.new) }
     ensures small { IfOk result (λ word. word < 2 ^ 40) }
-    ensures refers { Refers object.now (fetched_at address result) (seen D.room D.tracks D.journal D.faults drum.old places.old recent.old trace.old) (seen D.room D.tracks D.journal D.faults drum.new places.new recent.new trace.new) }
-    ensures row { (tracks : List (List ℕ)) → D.tracks drum.old ≡ Some tracks → Agrees (Some tracks) places.old.held → (go : ℕ → Row) → Fetches (reads (code_in tracks object.now) address go) go address result }
+    ensures refers { Refers object.now (fetched_at address result)
+        (seen D.room D.tracks D.journal D.faults drum.old places.old recent.old trace.old)
+        (seen D.room D.tracks D.journal D.faults drum.new places.new recent.new trace.new) }
+    ensures row { (tracks : List (List ℕ)) → D.tracks drum.old ≡ Some tracks → Agrees (Some tracks) places.old.held → (go : ℕ → Row)
+        → Fetches (reads (code_in tracks object.now) address go) go address result }
     ensures within { IfOk result (λ word. address < object.now.words) }
     ensures odd { result ≡ Err (Stopped Odd) → object.now.words ≤ address }
     ensures failed { result ≡ Err DrumFailed → HasRisen (D.faults drum.old) (D.faults drum.new) }
@@ -91,9 +99,13 @@ pub(crate) fn fetch_order<D: Drum>(
     address: u64,
 ) -> Result<Order, Miss>
     requires can { CanRead 1 object.now (seen D.room D.tracks D.journal D.faults drum.old places.old recent.old trace.old) }
-    ensures reads { Reads 1 object.now (seen D.room D.tracks D.journal D.faults drum.old places.old recent.old trace.old) (seen D.room D.tracks D.journal D.faults drum.new places.new recent.new trace.new) }
-    ensures row { (tracks : List (List ℕ)) (size : ℕ) (regs : Regs) (go : Order → Row) → D.tracks drum.old ≡ Some tracks → Agrees (Some tracks) places.old.held
-        → Searches object.now (seen D.room D.tracks D.journal D.faults drum.old places.old recent.old trace.old) (seen D.room D.tracks D.journal D.faults drum.new places.new recent.new trace.new) (reads_order (code_in tracks object.now) size regs address go) regs go result }
+    ensures reads { Reads 1 object.now (seen D.room D.tracks D.journal D.faults drum.old places.old recent.old trace.old)
+        (seen D.room D.tracks D.journal D.faults drum.new places.new recent.new trace.new) }
+    ensures row { (tracks : List (List ℕ)) (size : ℕ) (regs : Regs) (go : Order → Row) → D.tracks drum.old ≡ Some tracks
+        → Agrees (Some tracks) places.old.held
+        → Searches object.now (seen D.room D.tracks D.journal D.faults drum.old places.old recent.old trace.old)
+        (seen D.room D.tracks D.journal D.faults drum.new places.new recent.new trace.new)
+        (reads_order (code_in tracks object.now) size regs address go) regs go result }
     ensures order { IfOk result IsOrder }
     ensures within { IfOk result (λ order. address < object.now.words) }
     ensures failed { result ≡ Err DrumFailed → HasRisen (D.faults drum.old) (D.faults drum.new) }
@@ -119,9 +131,14 @@ pub(crate) fn fetch_only<D: Drum>(
     operation: Operation,
 ) -> Result<Order, Miss>
     requires can { CanRead 1 object.now (seen D.room D.tracks D.journal D.faults drum.old places.old recent.old trace.old) }
-    ensures reads { Reads 1 object.now (seen D.room D.tracks D.journal D.faults drum.old places.old recent.old trace.old) (seen D.room D.tracks D.journal D.faults drum.new places.new recent.new trace.new) }
-    ensures row { (tracks : List (List ℕ)) (size : ℕ) (regs : Regs) (go : Order → Row) → D.tracks drum.old ≡ Some tracks → Agrees (Some tracks) places.old.held
-        → Searches object.now (seen D.room D.tracks D.journal D.faults drum.old places.old recent.old trace.old) (seen D.room D.tracks D.journal D.faults drum.new places.new recent.new trace.new) (reads_order (code_in tracks object.now) size regs address (λ order. needs (is_a operation order) (go order))) regs go result }
+    ensures reads { Reads 1 object.now (seen D.room D.tracks D.journal D.faults drum.old places.old recent.old trace.old)
+        (seen D.room D.tracks D.journal D.faults drum.new places.new recent.new trace.new) }
+    ensures row { (tracks : List (List ℕ)) (size : ℕ) (regs : Regs) (go : Order → Row) → D.tracks drum.old ≡ Some tracks
+        → Agrees (Some tracks) places.old.held
+        → Searches object.now (seen D.room D.tracks D.journal D.faults drum.old places.old recent.old trace.old)
+        (seen D.room D.tracks D.journal D.faults drum.new places.new recent.new trace.new)
+        (reads_order (code_in tracks object.now) size regs address (λ order. needs (is_a operation order) (go order))) regs go
+        result }
     ensures order { IfOk result IsOrder }
     ensures only { IfOk result (λ order. is_a operation order ≡ true) }
     ensures within { IfOk result (λ order. address < object.now.words) }

@@ -57,12 +57,18 @@ pub fn step_order<D: Drum, S: Source, K: Sink>(
     requires transfers { places.old.transfers < 2 ^ 119 }
     ensures on { result ≡ On → m.new.place < object.now.words }
     ensures stays { result ≢ On → m.new.place ≡ m.old.place }
-    ensures spoilt { (odd : Odd) → result ≡ Spoilt odd → (m.new ≡ m.old) × ((frames.new ≡ frames.old) × ((out.new ≡ out.old) × (input.new ≡ input.old))) }
+    ensures spoilt { (odd : Odd) → result ≡ Spoilt odd → (m.new ≡ m.old)
+        × ((frames.new ≡ frames.old) × ((out.new ≡ out.old) × (input.new ≡ input.old))) }
     ensures order { (odd : Odd) → result ≡ Spoilt odd → odd.place ≡ m.old.place }
     ensures row { (tracks : List (List ℕ)) → D.tracks drum.old ≡ Some tracks → Agrees (Some tracks) places.old.held
-        → (read put taken : List ℕ) × Refers object.now read (seen D.room D.tracks D.journal D.faults drum.old places.old recent.old trace.old) (seen D.room D.tracks D.journal D.faults drum.new places.new recent.new trace.new)
+        → (read put taken : List ℕ) × Refers object.now read
+        (seen D.room D.tracks D.journal D.faults drum.old places.old recent.old trace.old)
+        (seen D.room D.tracks D.journal D.faults drum.new places.new recent.new trace.new)
         × Puts (K.holds out.old) put (K.holds out.new) × Takes (stand_of S.left input.old) taken (stand_of S.left input.new)
-        × ((rest : List ℕ) → IsRest (ended input.new) rest → Follows (row_of_order (code_in tracks object.now) (length frames.old.words) (regs_of m.old frames.old (taken ++ rest))) (regs_of m.old frames.old (taken ++ rest)) (regs_of m.new frames.new rest) read put taken m.old.place (word_in tracks object.now m.old.place) result) }
+        × ((rest : List ℕ) → IsRest (ended input.new) rest
+        → Follows (row_of_order (code_in tracks object.now) (length frames.old.words)
+        (regs_of m.old frames.old (taken ++ rest))) (regs_of m.old frames.old (taken ++ rest)) (regs_of m.new frames.new rest)
+        read put taken m.old.place (word_in tracks object.now m.old.place) result) }
     ensures measure { result ≡ On → measure object.now.words m.new < measure object.now.words m.old }
     ensures steps { m.new.steps ≤ m.old.steps }
     ensures references { taken recent.new ≤ taken recent.old + 2 * object.now.words + 2 }

@@ -32,7 +32,10 @@ pub(crate) fn plain(
 ) -> Result<(), Stop>
     requires order { IsOrder order }
     requires kept { IsKept frames.old }
-    ensures row { (code input : List ℕ) → IsTrue (frames.old.entered || is_start operation) → is_plain operation ≡ true → m.old.place + 1 < length code → ComesOn (effect code (length frames.old.words) (regs_of m.old frames.old input) operation order.level order.address) (regs_of m.new frames.new input) result }
+    ensures row { (code input : List ℕ) → IsTrue (frames.old.entered || is_start operation) → is_plain operation ≡ true
+        → m.old.place + 1 < length code → ComesOn
+        (effect code (length frames.old.words) (regs_of m.old frames.old input) operation order.level order.address)
+        (regs_of m.new frames.new input) result }
     ensures keeps { Keeps m.old m.new }
     ensures lighter { OnOk result (weight m.new ≤ weight m.old) }
     ensures size { length frames.new.words ≡ length frames.old.words }
@@ -62,7 +65,9 @@ pub(crate) fn plain(
 fn value(m: &Machine, frames: &Frames, operation: Operation, order: Order) -> Result<u64, Stop>
     requires order { IsOrder order }
     requires kept { IsKept frames.now }
-    ensures row { (code input : List ℕ) → frames.now.entered ≡ true → m.now.place + 1 < length code → is_value operation ≡ true → ComesWith (effect code (length frames.now.words) (regs_of m.now frames.now input) operation order.level order.address) (regs_of m.now frames.now input) result }
+    ensures row { (code input : List ℕ) → frames.now.entered ≡ true → m.now.place + 1 < length code → is_value operation ≡ true
+        → ComesWith (effect code (length frames.now.words) (regs_of m.now frames.now input) operation order.level order.address)
+        (regs_of m.now frames.now input) result }
     ensures small { IfOk result (λ word. word < 2 ^ 40) }
 {
     match operation {
@@ -84,7 +89,10 @@ fn value(m: &Machine, frames: &Frames, operation: Operation, order: Order) -> Re
 // The orders on w and R.
 #[inline(always)]
 fn combined(m: &Machine, frames: &Frames, operation: Operation, address: u32) -> Result<u64, Stop>
-    ensures row { (code input : List ℕ) → frames.now.entered ≡ true → m.now.place + 1 < length code → (l : ℕ) → is_combined operation ≡ true → ComesWith (effect code (length frames.now.words) (regs_of m.now frames.now input) operation l address) (regs_of m.now frames.now input) result }
+    ensures row { (code input : List ℕ) → frames.now.entered ≡ true → m.now.place + 1 < length code → (l : ℕ)
+        → is_combined operation ≡ true → ComesWith
+        (effect code (length frames.now.words) (regs_of m.now frames.now input) operation l address)
+        (regs_of m.now frames.now input) result }
     ensures small { IfOk result (λ word. word < 2 ^ 40) }
 {
     let w = match local(frames, address) {
@@ -101,7 +109,9 @@ fn combined(m: &Machine, frames: &Frames, operation: Operation, address: u32) ->
 #[inline(always)]
 fn take(frames: &Frames, order: Order) -> Result<u64, Stop>
     requires { IsOrder order }
-    ensures row { (code input : List ℕ) (m : Registers) (go : ℕ → Row) → frames.now.entered ≡ true → Gets (cell_word code (length frames.now.words) (regs_of m frames.now input) order.level order.address (λ place word. go word)) go result }
+    ensures row { (code input : List ℕ) (m : Registers) (go : ℕ → Row) → frames.now.entered ≡ true
+        → Gets (cell_word code (length frames.now.words) (regs_of m frames.now input) order.level order.address
+        (λ place word. go word)) go result }
     ensures small { IfOk result (λ word. word < 2 ^ 40) }
 {
     match place_of(frames, order.level, order.address) {
@@ -112,7 +122,9 @@ fn take(frames: &Frames, order: Order) -> Result<u64, Stop>
 
 // BASE: C, or the base of the visible activation of a level.
 fn base(frames: &Frames, level: u8) -> Result<u64, Stop>
-    ensures row { (code input : List ℕ) (m : Registers) (go : ℕ → Row) → frames.now.entered ≡ true → Gets (if level == 0 then go frames.now.base else in_level code (length frames.now.words) (regs_of m frames.now input) level (λ b. go b)) go result }
+    ensures row { (code input : List ℕ) (m : Registers) (go : ℕ → Row) → frames.now.entered ≡ true
+        → Gets (if level == 0 then go frames.now.base else in_level code (length frames.now.words) (regs_of m frames.now input)
+        level (λ b. go b)) go result }
     ensures small { IfOk result (λ word. word < 2 ^ 40) }
 {
     if level > 0 {
@@ -124,7 +136,9 @@ fn base(frames: &Frames, level: u8) -> Result<u64, Stop>
 // INDEX: the place of an element.
 fn element(frames: &Frames, order: Order) -> Result<u64, Stop>
     requires kept { IsKept frames.now }
-    ensures row { (code input : List ℕ) (m : Registers) → frames.now.entered ≡ true → m.place + 1 < length code → ComesWith (effect code (length frames.now.words) (regs_of m frames.now input) Index order.level order.address) (regs_of m frames.now input) result }
+    ensures row { (code input : List ℕ) (m : Registers) → frames.now.entered ≡ true → m.place + 1 < length code
+        → ComesWith (effect code (length frames.now.words) (regs_of m frames.now input) Index order.level order.address)
+        (regs_of m frames.now input) result }
     ensures small { IfOk result (λ word. word < 2 ^ 40) }
 {
     match frames.index(order.level, order.address) {
@@ -136,7 +150,9 @@ fn element(frames: &Frames, order: Order) -> Result<u64, Stop>
 // KEEP: w := R.
 #[inline(always)]
 fn keep(m: &mut Machine, frames: &mut Frames, address: u32) -> Result<(), Stop>
-    ensures row { (code input : List ℕ) → (l : ℕ) → frames.old.entered ≡ true → m.old.place + 1 < length code → ComesOn (effect code (length frames.old.words) (regs_of m.old frames.old input) Keep l address) (regs_of m.new frames.new input) result }
+    ensures row { (code input : List ℕ) → (l : ℕ) → frames.old.entered ≡ true → m.old.place + 1 < length code
+        → ComesOn (effect code (length frames.old.words) (regs_of m.old frames.old input) Keep l address)
+        (regs_of m.new frames.new input) result }
     ensures same { m.new ≡ m.old }
     ensures size { length frames.new.words ≡ length frames.old.words }
     ensures odd { result ≡ Err Odd → frames.new ≡ frames.old }
@@ -150,7 +166,9 @@ fn keep(m: &mut Machine, frames: &mut Frames, address: u32) -> Result<(), Stop>
 // PUT: the word at place w := R.
 #[inline(always)]
 fn put(m: &mut Machine, frames: &mut Frames, address: u32) -> Result<(), Stop>
-    ensures row { (code input : List ℕ) → (l : ℕ) → frames.old.entered ≡ true → m.old.place + 1 < length code → ComesOn (effect code (length frames.old.words) (regs_of m.old frames.old input) Put l address) (regs_of m.new frames.new input) result }
+    ensures row { (code input : List ℕ) → (l : ℕ) → frames.old.entered ≡ true → m.old.place + 1 < length code
+        → ComesOn (effect code (length frames.old.words) (regs_of m.old frames.old input) Put l address)
+        (regs_of m.new frames.new input) result }
     ensures same { m.new ≡ m.old }
     ensures size { length frames.new.words ≡ length frames.old.words }
     ensures odd { result ≡ Err Odd → frames.new ≡ frames.old }
@@ -164,7 +182,9 @@ fn put(m: &mut Machine, frames: &mut Frames, address: u32) -> Result<(), Stop>
 // LAB: R := an address of the object, Q := the base of the visible activation of a level.
 fn form_label(m: &mut Machine, frames: &mut Frames, order: Order) -> Result<(), Stop>
     requires { IsOrder order }
-    ensures row { (code input : List ℕ) → frames.old.entered ≡ true → m.old.place + 1 < length code → ComesOn (effect code (length frames.old.words) (regs_of m.old frames.old input) Lab order.level order.address) (regs_of m.new frames.new input) result }
+    ensures row { (code input : List ℕ) → frames.old.entered ≡ true → m.old.place + 1 < length code
+        → ComesOn (effect code (length frames.old.words) (regs_of m.old frames.old input) Lab order.level order.address)
+        (regs_of m.new frames.new input) result }
     ensures keeps { Keeps m.old m.new }
     ensures lighter { weight m.new ≤ weight m.old }
     ensures size { length frames.new.words ≡ length frames.old.words }
@@ -184,7 +204,9 @@ fn form_label(m: &mut Machine, frames: &mut Frames, order: Order) -> Result<(), 
 #[tactic(auto, using(crate::proofs::Sizes::length_started))]
 fn start(m: &mut Machine, frames: &mut Frames, order: Order) -> Result<(), Stop>
     requires kept { IsKept frames.old }
-    ensures row { (code input : List ℕ) → m.old.place + 1 < length code → ComesOn (effect code (length frames.old.words) (regs_of m.old frames.old input) Start order.level order.address) (regs_of m.new frames.new input) result }
+    ensures row { (code input : List ℕ) → m.old.place + 1 < length code
+        → ComesOn (effect code (length frames.old.words) (regs_of m.old frames.old input) Start order.level order.address)
+        (regs_of m.new frames.new input) result }
     ensures keeps { Keeps m.old m.new }
     ensures lighter { weight m.new ≤ weight m.old }
     ensures size { length frames.new.words ≡ length frames.old.words }
@@ -203,7 +225,9 @@ fn start(m: &mut Machine, frames: &mut Frames, order: Order) -> Result<(), Stop>
 #[tactic(auto, using(crate::proofs::Sizes::length_array))]
 fn take_array(m: &mut Machine, frames: &mut Frames, order: Order) -> Result<(), Stop>
     requires kept { IsKept frames.old }
-    ensures row { (code input : List ℕ) → frames.old.entered ≡ true → m.old.place + 1 < length code → ComesOn (effect code (length frames.old.words) (regs_of m.old frames.old input) Array order.level order.address) (regs_of m.new frames.new input) result }
+    ensures row { (code input : List ℕ) → frames.old.entered ≡ true → m.old.place + 1 < length code
+        → ComesOn (effect code (length frames.old.words) (regs_of m.old frames.old input) Array order.level order.address)
+        (regs_of m.new frames.new input) result }
     ensures same { m.new ≡ m.old }
     ensures size { length frames.new.words ≡ length frames.old.words }
     ensures odd { result ≡ Err Odd → frames.new ≡ frames.old }
@@ -221,7 +245,9 @@ fn take_array(m: &mut Machine, frames: &mut Frames, order: Order) -> Result<(), 
 #[tactic(auto, using(crate::proofs::Sizes::length_block))]
 fn enter_block(m: &mut Machine, frames: &mut Frames, order: Order) -> Result<(), Stop>
     requires kept { IsKept frames.old }
-    ensures row { (code input : List ℕ) → frames.old.entered ≡ true → m.old.place + 1 < length code → ComesOn (effect code (length frames.old.words) (regs_of m.old frames.old input) Block order.level order.address) (regs_of m.new frames.new input) result }
+    ensures row { (code input : List ℕ) → frames.old.entered ≡ true → m.old.place + 1 < length code
+        → ComesOn (effect code (length frames.old.words) (regs_of m.old frames.old input) Block order.level order.address)
+        (regs_of m.new frames.new input) result }
     ensures keeps { Keeps m.old m.new }
     ensures lighter { weight m.new ≤ weight m.old }
     ensures size { length frames.new.words ≡ length frames.old.words }
@@ -250,7 +276,9 @@ fn enter_block(m: &mut Machine, frames: &mut Frames, order: Order) -> Result<(),
 // LEAVE: leaves a block for the activation before it.
 fn leave_block(m: &mut Machine, frames: &mut Frames) -> Result<(), Stop>
     requires kept { IsKept frames.old }
-    ensures row { (code input : List ℕ) → (l a : ℕ) → frames.old.entered ≡ true → m.old.place + 1 < length code → ComesOn (effect code (length frames.old.words) (regs_of m.old frames.old input) Leave l a) (regs_of m.new frames.new input) result }
+    ensures row { (code input : List ℕ) → (l a : ℕ) → frames.old.entered ≡ true → m.old.place + 1 < length code
+        → ComesOn (effect code (length frames.old.words) (regs_of m.old frames.old input) Leave l a)
+        (regs_of m.new frames.new input) result }
     ensures keeps { Keeps m.old m.new }
     ensures lighter { weight m.new ≤ weight m.old }
     ensures size { length frames.new.words ≡ length frames.old.words }

@@ -104,7 +104,8 @@ fn make_array(words: &mut Region, bounds: &Vec<u64>, d: u64, place: u64, top: u6
     requires top { top + count ≤ length words.old.words }
     requires small { (k : ℕ) → slice_index bounds.now.items k < 2 ^ 40 }
     requires limit { length words.old.words < 2 ^ 24 }
-    ensures words { words.new.words ≡ poured (with_two (zeroed words.old.words top count) place top d) (place + 2) bounds.now.items (length bounds.now.items) }
+    ensures words { words.new.words ≡ poured (with_two (zeroed words.old.words top count) place top d) (place + 2) bounds.now.items
+        (length bounds.now.items) }
     ensures size { length words.new.words ≡ length words.old.words }
 {
     writes::zero(words, top, count);

@@ -80,7 +80,8 @@ pub(crate) fn have_order(words: &Region, at: u64, d: u64) -> bool
 pub(crate) fn count_elements(words: &Region, at: u64, d: u64) -> Option<u64>
     requires within { at + 2 * d ≤ length words.now.words }
     requires limit { length words.now.words < 2 ^ 24 }
-    ensures { MatchOption result (length words.now.words < elements words.now.words at d) (λ n. (n ≡ elements words.now.words at d) × (n ≤ length words.now.words)) }
+    ensures { MatchOption result (length words.now.words < elements words.now.words at d)
+        (λ n. (n ≡ elements words.now.words at d) × (n ≤ length words.now.words)) }
 {
     let size = words.size();
     let mut count = 1;
@@ -107,7 +108,8 @@ fn is_within(words: &Region, at: u64, from: u64, i: u64) -> bool
     requires within { at + 2 * i + 2 ≤ length words.now.words }
     requires subscript { from + i < length words.now.words }
     requires limit { length words.now.words < 2 ^ 24 }
-    ensures { result ≡ (nat_le (lower words.now.words at i) (subscript words.now.words from i) && nat_le (subscript words.now.words from i) (upper words.now.words at i)) }
+    ensures { result ≡ (nat_le (lower words.now.words at i) (subscript words.now.words from i) && nat_le
+        (subscript words.now.words from i) (upper words.now.words at i)) }
 {
     let number = subscript_at(words, from, i);
     (lower_at(words, at, i) <= number) & (number <= upper_at(words, at, i))
@@ -133,7 +135,8 @@ fn offset_by(words: &Region, at: u64, from: u64, d: u64) -> Option<u64>
     requires within { at + 2 * d ≤ length words.now.words }
     requires subscripts { from + d ≤ length words.now.words }
     requires limit { length words.now.words < 2 ^ 24 }
-    ensures { MatchOption result (2 ^ 24 ≤ offset words.now.words at from d) (λ n. (n ≡ offset words.now.words at from d) × (n < 2 ^ 24)) }
+    ensures { MatchOption result (2 ^ 24 ≤ offset words.now.words at from d)
+        (λ n. (n ≡ offset words.now.words at from d) × (n < 2 ^ 24)) }
 {
     let mut number = 0;
     for i in 0..d {

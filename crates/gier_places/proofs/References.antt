@@ -1,8 +1,8 @@
 -- What one reference does to the tracks that are held, on plain lists.
-use Rattle.std.proofs.Common.{◌≡◌, ◌≤◌, ◌<◌, ◌+◌, ◌==◌, ℕ, zero, suc, Bool, true, false, cond, nat_lt, if◌then◌else◌, List, [], ◌∷◌, ◌++◌, length, map, take, drop, get_or, set, Option, None, Some, inl, inr, refl, sym, ap, ◌∙◌, subst, arith, append_assoc}
-use Rattle.std.specs.List.{All, remove, position, position_or_len, slice_get, swap}
+use Rattle.std.proofs.Common.{◌≡◌, ◌≤◌, ◌<◌, ◌+◌, ◌==◌, ℕ, zero, suc, Bool, true, false, cond, nat_lt, if◌then◌else◌, List, [], ◌∷◌, ◌++◌, length, map, take, get_or, Option, None, Some, inl, inr, refl, sym, ap, ◌∙◌, subst, arith, append_assoc}
+use Rattle.std.specs.List.{All, remove, position, position_or_len, slice_get}
 use Rattle.std.proofs.lemmas.Bool.Decides.{nat_tests, eqb_tells}
-use Rattle.std.proofs.lemmas.List.{length-map, map-append, take_all, take-map, take-append-le, length-append}
+use Rattle.std.proofs.lemmas.List.{length-map, map-append, take_all, take-map, length-append}
 use Rattle.std.proofs.lemmas.List.Elements.{All-take, All-drop, All-append}
 use Rattle.std.proofs.lemmas.List.Quantifiers.{position-Some}
 use Rattle.gier_drum.specs.declared.drum.Entry.{Entry}
@@ -10,52 +10,12 @@ use Rattle.gier_drum.specs.declared.drum.Entry.TheVariants.{Read}
 use Rattle.gier_drum.specs.Drum.{GivesTrack, Logs}
 use Rattle.gier_order.specs.Misses.{is_among, without, misses, most_recent}
 use Rattle.gier_order.proofs.Recency.{IsOnce, without_absent, most_recent_once, most_recent-one_more, misses-one_more}
-use Rattle.gier_places.specs.declared.places.Held.{Held}
+use Rattle.gier_places.specs.Held.{Held, moved_first, latest_words}
+use Rattle.gier_places.proofs.Moving.{moved, length-moved}
 use Rattle.gier_places.specs.Contents.{Contents, tracks_of, is_held, StandsFor, Agrees, Refers, LogsReads}
-use Rattle.gier_places.specs.Kept.{behind, moved_first, latest_words}
 
 abbrev pub blank : Held
 blank = record { track = 0; words = [] }
-
--- moving a track to the front
-
-pub moved : (held : List Held) (place : ℕ) → place < length held → moved_first held place ≡ get_or held place blank ∷ remove held place
-moved [] place lt = absurd (omega arith)
-moved (h ∷ held) zero lt = refl
-moved (h ∷ held) (suc place) lt = ap (behind h) (moved held place (omega arith))
-
-pub moved_none : (held : List Held) (place : ℕ) → place ≡ 0 → held ≡ moved_first held place
-moved_none [] place is = refl
-moved_none (h ∷ held) zero is = refl
-moved_none (h ∷ held) (suc place) is = absurd (omega arith)
-
-length-behind : (h : Held) (held : List Held) → length (behind h held) ≡ suc (length held)
-length-behind h [] = refl
-length-behind h (first ∷ others) = refl
-
-pub length-moved : (held : List Held) (place : ℕ) → length (moved_first held place) ≡ length held
-length-moved [] place = refl
-length-moved (h ∷ held) zero = refl
-length-moved (h ∷ held) (suc place) = length-behind h (moved_first held place) ∙ ap suc (length-moved held place)
-
-swapped_at : (d : Held) (held : List Held) (before : ℕ) → suc before < length held → moved_first (set (set held before (get_or held (suc before) d)) (suc before) (get_or held before d)) before ≡ moved_first held (suc before)
-swapped_at d [] before lt = absurd (omega arith)
-swapped_at d (a ∷ []) before lt = absurd (omega arith)
-swapped_at d (a ∷ b ∷ held) zero lt = refl
-swapped_at d (a ∷ b ∷ held) (suc before) lt = ap (behind a) (swapped_at d (b ∷ held) before (omega arith))
-
--- a swap with the element before it brings an element one place nearer to the front
-pub swapped : (held new : List Held) (before place : ℕ) → place ≡ suc before → place < length held → new ≡ swap held before place → moved_first new before ≡ moved_first held place
-swapped [] new before place next lt is = absurd (omega arith)
-swapped (d ∷ held) new before place next lt is =
-    let in_range : suc before < length (d ∷ held) = omega arith in
-    rw (is, next) (swapped_at d (d ∷ held) before in_range)
-
--- what a whole slice of the list was changed to
-pub whole : (old new : List Held) (n : ℕ) → length new ≡ n → take n (new ++ drop (length new) old) ≡ new
-whole old new n long =
-    let within : n ≤ length new = omega arith in
-    rw take-append-le (take_all n new (omega arith))
 
 -- finding a track
 
@@ -136,7 +96,7 @@ recent_stands old refs track stands =
 
 pub Refers-held : (old new : Contents) (track place : ℕ) → new.places ≡ old.places → new.transfers ≡ old.transfers → new.held ≡ moved_first old.held place → length old.held ≤ old.places → place < length old.held → (get_or old.held place blank).track ≡ track → Refers old track new
 Refers-held old new track place places transfers held fits lt is =
-    let now : new.held ≡ get_or old.held place blank ∷ remove old.held place = held ∙ moved old.held place lt in
+    let now : new.held ≡ get_or old.held place blank ∷ remove old.held place = held ∙ moved blank old.held place lt in
     let among : is_held old track ≡ true = present track old.held place lt is in
     let long : length (tracks_of new.held) ≤ old.places = omega (arith, length-map new.held (λ (h : Held). h.track), ap length held, length-moved old.held place) in
     record {
@@ -186,17 +146,14 @@ all_cons P h held first others (suc k) d lt = others k d (omega arith)
 all_remove : (P : Held → Type 0) (held : List Held) (place : ℕ) → All P held → All P (remove held place)
 all_remove P held place all = All-append P _ _ (All-take P place held all) (All-drop P (suc place) held all)
 
-pub all_moved : (P : Held → Type 0) (held : List Held) (place : ℕ) → place < length held → All P held → All P (moved_first held place)
-all_moved P held place lt all = rw (moved held place lt) (all_cons P (get_or held place blank) (remove held place) (all place blank lt) (all_remove P held place all))
-
 pub Agrees-held : (tracks : Option (List (List ℕ))) (held new : List Held) (place : ℕ) → new ≡ moved_first held place → place < length held → Agrees tracks held → Agrees tracks new
 Agrees-held None held new place is lt agrees = tt
 Agrees-held (Some tracks) held new place is lt agrees =
-    rw (is, moved held place lt) (all_cons (λ (h : Held). slice_get tracks h.track ≡ Some h.words) (get_or held place blank) (remove held place) (agrees place blank lt) (all_remove (λ (h : Held). slice_get tracks h.track ≡ Some h.words) held place agrees))
+    rw (is, moved blank held place lt) (all_cons (λ (h : Held). slice_get tracks h.track ≡ Some h.words) (get_or held place blank) (remove held place) (agrees place blank lt) (all_remove (λ (h : Held). slice_get tracks h.track ≡ Some h.words) held place agrees))
 
 pub given-held : (tracks : Option (List (List ℕ))) (held new : List Held) (track place : ℕ) → new ≡ moved_first held place → place < length held → (get_or held place blank).track ≡ track → Agrees tracks held → GivesTrack tracks track (latest_words new)
 given-held None held new track place is lt same agrees = tt
-given-held (Some tracks) held new track place is lt same agrees = rw (is, moved held place lt, ← same) (agrees place blank lt)
+given-held (Some tracks) held new track place is lt same agrees = rw (is, moved blank held place lt, ← same) (agrees place blank lt)
 
 pub Agrees-read : (tracks : Option (List (List ℕ))) (held : List Held) (places track : ℕ) (words : List ℕ) → GivesTrack tracks track words → Agrees tracks held → Agrees tracks (take places (record { track = track; words = words } ∷ held))
 Agrees-read None held places track words given agrees = tt

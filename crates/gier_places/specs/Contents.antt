@@ -3,7 +3,7 @@ use Rattle.std.specs.Prelude.{◌≡◌, ◌+◌, ℕ, List, [], ◌∷◌, ◌+
 use Rattle.gier_drum.specs.declared.drum.Entry.{Entry}
 use Rattle.gier_drum.specs.declared.drum.Entry.TheVariants.{Read}
 use Rattle.gier_order.specs.Misses.{is_among, misses, most_recent}
-use Rattle.gier_places.specs.declared.places.Held.{Held}
+use Rattle.gier_places.specs.Held.{Held}
 
 -- how many places there are, the tracks in them and their words, the one referred to last first, and how many were read
 pub record Contents : Type 0 where

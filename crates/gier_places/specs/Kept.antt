@@ -1,26 +1,35 @@
--- How the places keep tracks.
-use Rattle.std.specs.Prelude.{◌^◌, ◌<◌, ◌≤◌, ℕ, zero, suc, List, [], ◌∷◌, All, length}
-use Rattle.gier_places.specs.declared.places.Held.{Held}
+-- How the places keep tracks: each slot has words of its own.
+use Rattle.std.specs.Prelude.{◌≡◌, ◌≢◌, ◌^◌, ◌<◌, ◌≤◌, ℕ, List, [], ◌∷◌, All, length, map}
+use Rattle.gier_places.specs.declared.slots.Slot.{Slot}
 
--- from 1 to 64 places, as much memory, no more tracks than places, and words below 2^40
-pub record IsKept (places : ℕ) (held : List Held) (capacity : ℕ) : Type 0 where
+-- where the words of the slots are
+abbrev pub ats : List Slot → List ℕ
+ats slots = map (λ (slot : Slot). slot.at) slots
+
+abbrev pub IsAbsent : (at : ℕ) → List ℕ → Type 0
+IsAbsent at [] = Unit {0}
+IsAbsent at (other ∷ others) = (other ≢ at) × IsAbsent at others
+
+abbrev pub AreApart : List ℕ → Type 0
+AreApart [] = Unit {0}
+AreApart (at ∷ others) = IsAbsent at others × AreApart others
+
+abbrev pub AreBelow : (limit : ℕ) → List ℕ → Type 0
+AreBelow limit [] = Unit {0}
+AreBelow limit (at ∷ others) = (at < limit) × AreBelow limit others
+
+-- each slot has words, and none has those of another
+pub record IsPlaced (slots : List Slot) (words : List (List ℕ)) : Type 0 where
+  pub apart : AreApart (ats slots)
+  pub below : AreBelow (length words) (ats slots)
+  pub as_many : length words ≡ length slots
+  pub small : All (λ track. All (λ word. word < 2 ^ 40) track) words
+
+-- from 1 to 64 places, as much memory, and no more tracks than places
+pub record IsKept (places : ℕ) (slots : List Slot) (words : List (List ℕ)) (slot_room word_room : ℕ) : Type 0 where
   pub least : 1 ≤ places
   pub most : places ≤ 64
-  pub fits : length held ≤ places
-  pub reserved : places ≤ capacity
-  pub small : All (λ (h : Held). All (λ word. word < 2 ^ 40) h.words) held
-
--- the words of the track referred to last
-abbrev pub latest_words : List Held → List ℕ
-latest_words [] = []
-latest_words (h ∷ held) = h.words
-
-abbrev pub behind : Held → List Held → List Held
-behind h [] = h ∷ []
-behind h (first ∷ others) = first ∷ h ∷ others
-
--- the list with the element at this place moved to the front
-abbrev pub moved_first : List Held → ℕ → List Held
-moved_first [] place = []
-moved_first (h ∷ held) zero = h ∷ held
-moved_first (h ∷ held) (suc place) = behind h (moved_first held place)
+  pub fits : length slots ≤ places
+  pub slots_reserved : places ≤ slot_room
+  pub words_reserved : places ≤ word_room
+  pub placed : IsPlaced slots words

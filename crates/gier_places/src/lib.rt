@@ -2,6 +2,7 @@
 #![tactic(auto)]
 
 mod places;
+mod slots;
 
 pub use places::Places;
 

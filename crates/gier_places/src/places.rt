@@ -5,39 +5,35 @@ ghost use Rattle.gier_drum.specs.Drum.{GivesTrack, Logs};
 ghost use Rattle.gier_drum.specs.declared.drum.Entry.{Entry};
 ghost use Rattle.gier_drum.specs.declared.drum.Entry.TheVariants.{Read};
 ghost use Rattle.gier_order.specs.Misses.{misses};
-ghost use Rattle.gier_places.specs.Kept.{moved_first};
+ghost use Rattle.gier_places.specs.Held.{moved_first};
 
+use crate::slots::{Slot, move_first, place_in, put_first, replace_last};
 use gier_drum::Drum;
 use gier_word::{Failed, NoMemory};
 use std::alloc::Global;
 use std::marker::Model;
 
-/// A track and its words.
-#[derive(Clone, Copy)]
-pub(crate) struct Held {
-    track: u32,
-    words: [u64; 40],
-}
-
 /// From 1 to 64 places, each of which holds a track and its words or is empty.
 #[derive(Drop)]
 pub struct Places {
     places: usize,
-    // The track referred to last first.
-    held: Vec<Held>,
+    // The track referred to last first. Words stay where they were read to; slots alone are moved.
+    slots: Vec<Slot>,
+    words: Vec<[u64; 40]>,
     transfers: u128,
 }
 
 impl Model for Places {
     ghost use Rattle.std.specs.Prelude.{vec_capacity};
     ghost use Rattle.gier_places.specs.Contents.{Contents};
+    ghost use Rattle.gier_places.specs.Held.{held_in};
     ghost use Rattle.gier_places.specs.Kept.{IsKept};
 
     ghost Value = { Contents };
 
-    ghost view = { λ a. record { places = a.places; held = a.held.items; transfers = a.transfers } };
+    ghost view = { λ a. record { places = a.places; held = held_in a.words.items a.slots.items; transfers = a.transfers } };
 
-    ghost invariant = { λ a. IsKept a.places a.held.items (vec_capacity a.held) };
+    ghost invariant = { λ a. IsKept a.places a.slots.items a.words.items (vec_capacity a.slots) (vec_capacity a.words) };
 }
 
 impl Places {
@@ -47,7 +43,7 @@ impl Places {
     ghost use denote.Follow.{follows_so};
     ghost use Rattle.gier_places.specs.contracts.places.Places.{the_row};
     ghost use Rattle.gier_places.specs.Contents.{StandsFor, AfterRefer, Agrees, LogsReads, is_held};
-    ghost use Rattle.gier_places.specs.Kept.{latest_words};
+    ghost use Rattle.gier_places.specs.Held.{latest_words};
 
     /// So many empty places, from 1 to 64.
     pub fn open(alloc: Global, places: u8) -> Result<Places, NoMemory>
@@ -59,13 +55,17 @@ impl Places {
         ensures stands { IfOk result (λ opened. StandsFor opened []) }
     {
         let places = places as usize;
-        match Vec::with_capacity(alloc, places) {
-            Ok(held) => Ok(Places {
+        match (
+            Vec::with_capacity(alloc, places),
+            Vec::with_capacity(alloc, places),
+        ) {
+            (Ok(slots), Ok(words)) => Ok(Places {
                 places,
-                held,
+                slots,
+                words,
                 transfers: 0,
             }),
-            Err(_) => Err(NoMemory),
+            _ => Err(NoMemory),
         }
     }
 
@@ -77,9 +77,11 @@ impl Places {
     pub fn refer<D: Drum>(&mut self, track: u32, drum: &mut D) -> Result<&[u64; 40], Failed>
         requires in_room { track < D.room drum.old }
         requires few { self.old.transfers < 2 ^ 120 }
-        ensures* after { sem 𝓛 (follows_so the_row the_row self.entry.ghost_name none (λ _ _. ⊤) (λ new. AfterRefer (D.tracks drum.old) self.old track result new)) }
+        ensures* after { sem 𝓛 (follows_so the_row the_row self.entry.ghost_name none (λ _ _. ⊤)
+            (λ new. AfterRefer (D.tracks drum.old) self.old track result new)) }
         ensures words { IfOk result (λ words. All (λ word. word < 2 ^ 40) words.now) }
-        ensures given { Agrees (D.tracks drum.old) self.old.held → IfOk result (λ words. GivesTrack (D.tracks drum.old) track words.now) }
+        ensures given { Agrees (D.tracks drum.old) self.old.held
+            → IfOk result (λ words. GivesTrack (D.tracks drum.old) track words.now) }
         ensures hit { IsTrue (is_held self.old track) → IsOk result × (drum.new ≡ drum.old) }
         ensures room { D.room drum.new ≡ D.room drum.old }
         ensures tracks { D.tracks drum.new ≡ D.tracks drum.old }
@@ -108,7 +110,8 @@ impl Places {
         ensures none_made { self.new.transfers ≡ 0 }
         ensures stands { StandsFor self.new [] }
     {
-        self.held.clear();
+        self.slots.clear();
+        self.words.clear();
         self.transfers = 0;
     }
 
@@ -119,7 +122,8 @@ impl Places {
         requires few { self.old.transfers < 2 ^ 120 }
         ensures after { AfterRefer (D.tracks drum.old) self.old track result self.new }
         ensures some { OnOk result (0 < length self.new.held) }
-        ensures given { OnOk result (Agrees (D.tracks drum.old) self.old.held → GivesTrack (D.tracks drum.old) track (latest_words self.new.held)) }
+        ensures given { OnOk result (Agrees (D.tracks drum.old) self.old.held
+            → GivesTrack (D.tracks drum.old) track (latest_words self.new.held)) }
         ensures hit { IsTrue (is_held self.old track) → IsOk result × (drum.new ≡ drum.old) }
         ensures room { D.room drum.new ≡ D.room drum.old }
         ensures tracks { D.tracks drum.new ≡ D.tracks drum.old }
@@ -146,10 +150,7 @@ impl Places {
         ensures fits { length self.now.held ≤ self.now.places }
         ensures least { 1 ≤ self.now.places }
     {
-        match self.held.as_slice() {
-            [newest, ..] if newest.track == track => Some(0),
-            _ => search(self.held.as_slice(), track),
-        }
+        place_in(self.slots.as_slice(), track)
     }
 
     // Most references are to the track in front, and leave the list as it is.
@@ -159,7 +160,7 @@ impl Places {
         ensures transfers { self.new.transfers ≡ self.old.transfers }
         ensures held { self.new.held ≡ moved_first self.old.held place }
     {
-        move_first(self.held.as_mut_slice(), place);
+        move_first(self.slots.as_mut_slice(), place);
     }
 
     // Takes in a track that was read, and gives up the last one where all places are taken.
@@ -171,16 +172,16 @@ impl Places {
         ensures transfers { self.new.transfers ≡ self.old.transfers + 1 }
         ensures held { self.new.held ≡ take self.old.places (record { track = track; words = words.now } ∷ self.old.held) }
     {
-        if self.held.len() == self.places {
-            self.held.pop();
-        }
-        put_first(
-            &mut self.held,
-            Held {
+        if self.slots.len() == self.places {
+            replace_last(
+                self.slots.as_mut_slice(),
+                self.words.as_mut_slice(),
                 track,
-                words: *words,
-            },
-        );
+                words,
+            );
+        } else {
+            put_first(&mut self.slots, &mut self.words, track, words);
+        }
         self.transfers += 1;
     }
 
@@ -190,36 +191,6 @@ impl Places {
         ensures value { result.now ≡ latest_words self.now.held }
         ensures words { All (λ word. word < 2 ^ 40) result.now }
     {
-        &self.held[0].words
-    }
-}
-
-#[inline(never)]
-fn search(held: &[Held], track: u32) -> Option<usize>
-    ensures { result ≡ position (λ h. h.track == track) held.now }
-{
-    held.iter().position(|held| held.track == track)
-}
-
-// Moves no more than what stands before the place, since a track that comes back was mostly used a short time ago.
-fn move_first(held: &mut [Held], place: usize)
-    requires { place < length held.old }
-    ensures { held.new ≡ moved_first held.old place }
-{
-    let mut at = place;
-    while at > 0 {
-        held.swap(at - 1, at);
-        at -= 1;
-    }
-}
-
-fn put_first(held: &mut Vec<Held>, first: Held)
-    requires { length held.old.items < vec_capacity held.old }
-    ensures items { held.new.items ≡ first ∷ held.old.items }
-    ensures capacity { vec_capacity held.old ≤ vec_capacity held.new }
-{
-    match held.insert(0, first) {
-        Ok(()) => (),
-        Err(_) => unreachable!(),
+        &self.words[self.slots[0].at as usize]
     }
 }

@@ -13,7 +13,7 @@ use Rattle.gier_order.specs.Flat.Row.{Regs, Ending as FlatEnding}
 use Rattle.gier_order.specs.Flat.Run.{Final, Over, exec, one, begun, flat, Report, report_of}
 use Rattle.gier_order.proofs.Flat.Ends.{flat_is}
 use Rattle.gier_places.specs.Contents.{Contents, Agrees, LogsReads, StandsFor as PlacesFor, tracks_of as tracks_held}
-use Rattle.gier_places.specs.declared.places.Held.{Held}
+use Rattle.gier_places.specs.Held.{Held}
 use Rattle.gier_exec.specs.Registers.{begun_at}
 use Rattle.gier_exec.specs.Rows.{regs_of}
 use Rattle.gier_exec.specs.References.{Refers, tracks_of}

@@ -48,8 +48,10 @@ pub(crate) fn obey<D: Drum, S: Source, K: Sink>(
         (seen D.room D.tracks D.journal D.faults drum.new places.new recent.new trace.new)
         × Puts (K.holds out.old) put (K.holds out.new) × Takes (stand_of S.left input.old) taken (stand_of S.left input.new)
         × ((rest : List ℕ) → IsRest (ended input.new) rest
-        → RunsTo (code_in tracks object.now) (length frames.old.words) (regs_of m.old frames.old (taken ++ rest)) (regs_of m.new frames.new rest) read put result) }
-    ensures sizes { KeepsSizes object.now.words (parts m.old frames.old places.old trace.old) (parts m.new frames.new places.new trace.new) }
+        → RunsTo (code_in tracks object.now) (length frames.old.words) (regs_of m.old frames.old (taken ++ rest))
+        (regs_of m.new frames.new rest) read put result) }
+    ensures sizes { KeepsSizes object.now.words (parts m.old frames.old places.old trace.old)
+        (parts m.new frames.new places.new trace.new) }
     ensures reads { OnlyReads (devices D.room D.tracks D.journal D.faults S.faults K.faults drum.old (source_of input.old) out.old)
         (devices D.room D.tracks D.journal D.faults S.faults K.faults drum.new (source_of input.new) out.new) }
     ensures same_reference { input.new.source.ghost_name ≡ input.old.source.ghost_name }

@@ -108,13 +108,16 @@ impl Runner {
         ensures settings { self.new.settings ≡ self.old.settings }
         ensures agrees { Agrees self.new }
         ensures flat { (tracks : List (List ℕ)) → D.tracks drum.old ≡ Some tracks
-            → (read put taken : List ℕ) × (ended : Bool) × HasRead object.now read self.new (D.journal drum.old) (D.journal drum.new)
-            × Puts (K.holds out.old) put (K.holds out.new) × Takes (unread (S.left input.old)) taken (read_up (S.left input.new) (length taken) ended)
+            → (read put taken : List ℕ) × (ended : Bool)
+            × HasRead object.now read self.new (D.journal drum.old) (D.journal drum.new)
+            × Puts (K.holds out.old) put (K.holds out.new)
+            × Takes (unread (S.left input.old)) taken (read_up (S.left input.new) (length taken) ended)
             × ((rest : List ℕ) → IsRest ended rest → Reports (flat_ending result) self.new read put rest
             (flat (code_in tracks object.now) object.now.start (taken ++ rest) self.old.settings.steps self.old.settings.stack)) }
         ensures told { (tracks : List (List ℕ)) (bytes : List ℕ) → D.tracks drum.old ≡ Some tracks → S.left input.old ≡ Some bytes
             → (read put taken rest : List ℕ) × HasRead object.now read self.new (D.journal drum.old) (D.journal drum.new)
-            × Puts (K.holds out.old) put (K.holds out.new) × (take limit bytes ≡ taken ++ rest) × (S.left input.new ≡ Some (drop (length taken) bytes))
+            × Puts (K.holds out.old) put (K.holds out.new) × (take limit bytes ≡ taken ++ rest)
+            × (S.left input.new ≡ Some (drop (length taken) bytes))
             × Reports (flat_ending result) self.new read put rest
             (flat (code_in tracks object.now) object.now.start (take limit bytes) self.old.settings.steps self.old.settings.stack) }
         ensures stop { self.new.machine.place < object.now.words }
@@ -172,7 +175,8 @@ impl Runner {
     /// The frames that the last run left, with the activations that were live where the flat run stops.
     pub fn frames(&self) -> &Frames
         ensures value { result.now ≡ self.now.frames }
-        ensures live { (rest : List ℕ) → live_in (regs_of self.now.machine self.now.frames rest) ≡ map live_of (activations self.now.frames) }
+        ensures live { (rest : List ℕ) → live_in (regs_of self.now.machine self.now.frames rest)
+            ≡ map live_of (activations self.now.frames) }
     {
         &self.frames
     }

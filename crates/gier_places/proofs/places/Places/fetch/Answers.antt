@@ -1,8 +1,9 @@
 use Rattle.std.proofs.Common.{◌≡◌, ◌==◌, ◌∙◌, true, false, length, None, Some, sym, ap, arith}
 use Rattle.std.specs.List.{position}
 use Rattle.std.proofs.lemmas.List.{length-take}
-use Rattle.gier_places.specs.declared.places.Held.{Held}
-use Rattle.gier_places.proofs.References.{found_in, absent_in, present, length-moved, Refers-held, Refers-read, Agrees-held, Agrees-read, given-held, latest_words-take, LogsReads-held, LogsReads-read}
+use Rattle.gier_places.specs.Held.{Held}
+use Rattle.gier_places.proofs.References.{found_in, absent_in, present, Refers-held, Refers-read, Agrees-held, Agrees-read, given-held, latest_words-take, LogsReads-held, LogsReads-read}
+use Rattle.gier_places.proofs.Moving.{length-moved}
 use Rattle.gier_places.proofs.places.Places.fetch.Goals as goal
 
 pub returns-in-Some-clause-after : goal.returns-in-Some-clause-after
