@@ -9,3 +9,7 @@ stop_of Failed = Drum
 stop_of (TextSpoilt odd) = Spoilt odd
 stop_of Memory = Spoilt (record { place = 0; word = 0 })
 stop_of Full = Spoilt (record { place = 0; word = 0 })
+
+abbrev pub IsSpoilt : LineStop → Type 0
+IsSpoilt Drum = ⊥
+IsSpoilt (Spoilt odd) = Unit {0}

@@ -1,6 +1,7 @@
 // The words whose lines are asked for, and the lines found.
-ghost use Rattle.std.specs.Prelude.{◌≡◌, ◌<◌, ◌++◌, ◌∷◌, [], length, slice_get, Some};
+ghost use Rattle.std.specs.Prelude.{◌≡◌, ◌<◌, ◌++◌, ◌∷◌, [], length, map, max, slice_get, Some};
 ghost use Rattle.gier_mortem.specs.declared.lines.Asked.{Asked};
+ghost use Rattle.gier_mortem.specs.Asking.{addresses, greatest, told_line};
 
 use arrayvec::ArrayVec;
 
@@ -47,22 +48,50 @@ impl Lines {
     }
 
     // The greatest address that is asked for, or 0 where none is.
-    pub(crate) fn last(&self) -> u32 {
-        self.asked
-            .iter()
-            .map(|asked| asked.address)
-            .max()
-            .unwrap_or(0)
+    pub(crate) fn last(&self) -> u32
+        ensures { result ≡ greatest (addresses self.now.asked.items) }
+    {
+        last_of(self.asked.as_slice())
     }
 
     // The word with this address has this line.
     pub(crate) fn tell(&mut self, address: u32, line: u32)
-        ensures count { length self.new.asked.items ≡ length self.old.asked.items }
+        ensures { self.new.asked.items ≡ map (told_line address line) self.old.asked.items }
     {
-        for asked in self.asked.iter_mut() {
-            if asked.address == address {
-                asked.line = line;
-            }
-        }
+        tell_all(self.asked.as_mut_slice(), address, line);
+    }
+}
+
+fn last_of(asked: &[Asked]) -> u32
+    ensures { result ≡ greatest (addresses asked.now) }
+{
+    let mut last = 0;
+    for at in 0..asked.len() {
+        last = greater(last, asked[at].address);
+    }
+    last
+}
+
+fn greater(a: u32, b: u32) -> u32
+    ensures { result ≡ max a b }
+{
+    if a < b { b } else { a }
+}
+
+fn tell_all(asked: &mut [Asked], address: u32, line: u32)
+    ensures { asked.new ≡ map (told_line address line) asked.old }
+{
+    for at in 0..asked.len() {
+        asked[at] = told_line(asked[at], address, line);
+    }
+}
+
+fn told_line(asked: Asked, address: u32, line: u32) -> Asked
+    ensures { result ≡ told_line address line asked }
+{
+    if asked.address == address {
+        Asked { address, line }
+    } else {
+        asked
     }
 }

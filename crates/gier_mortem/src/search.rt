@@ -1,9 +1,11 @@
 // Looks for the words that are asked for in the text of orders, from its first symbol to the last word that is asked for.
-ghost use Rattle.std.specs.Prelude.{◌≡◌, ◌<◌, ◌≤◌, ◌+◌, IsErrOf, true, length};
+ghost use Rattle.std.specs.Prelude.{◌≡◌, ◌<◌, ◌≤◌, ◌+◌, IsErrOf, List, length, Some, true, false};
 ghost use Rattle.gier_word.specs.Cause.{HasRisen};
-ghost use Rattle.gier_text.specs.Coded.{tracks_for};
+ghost use Rattle.gier_text.specs.Coded.{tracks_for, text_on};
 ghost use Rattle.gier_text.specs.View.{KeepsTracks};
-ghost use Rattle.gier_mortem.specs.Asking.{is_word};
+ghost use Rattle.gier_mortem.specs.Asking.{is_word, addresses, Finds, SpoiltIfShort};
+ghost use Rattle.gier_symbol.specs.declared.symbol.Symbol.{Symbol};
+ghost use Rattle.gier_mortem.specs.Stops.{IsSpoilt};
 ghost use Rattle.gier_mortem.specs.declared.stop.LineStop.TheVariants.{Drum as DrumFailed};
 
 use crate::stop::stop_of;
@@ -17,7 +19,9 @@ impl Lines {
     /// Finds the lines in the text of orders that lies on the drum from a track on and has so many symbols. Its tracks are
     /// read in rising order, each once, up to the one with the last word that was asked for.
     ///
-    /// `Drum` comes only where the drum's count of faults rose.
+    /// `Drum` comes only where the drum's count of faults rose. Where the drum tells a text there, each word that was asked for
+    /// has its line, or the text ends before one of them.
+    #[tactic(auto, using(crate::proofs::Searching::as_many))]
     pub fn find<D: Drum>(
         &mut self,
         first_track: u32,
@@ -26,6 +30,11 @@ impl Lines {
     ) -> Result<(), LineStop>
         requires placed { first_track + tracks_for symbols ≤ D.room drum.old }
         ensures count { length self.new.asked.items ≡ length self.old.asked.items }
+        ensures addresses { addresses self.new.asked.items ≡ addresses self.old.asked.items }
+        ensures lines { (list : List Symbol) → text_on (D.tracks drum.old) first_track symbols ≡ Some list
+            → Finds result list self.new.asked.items }
+        ensures spoilt { (list : List Symbol) → text_on (D.tracks drum.old) first_track symbols ≡ Some list
+            → SpoiltIfShort result list self.old.asked.items }
         ensures room { D.room drum.new ≡ D.room drum.old }
         ensures tracks { KeepsTracks first_track (first_track + tracks_for symbols) (D.tracks drum.old) (D.tracks drum.new) }
         ensures later { D.faults drum.old ≤ D.faults drum.new }
@@ -46,7 +55,12 @@ impl Lines {
     ) -> Result<(), LineStop>
         requires reading { (T.view text.old store.old).rewound ≡ true }
         requires placed { T.end_track text.old ≤ T.room store.old }
-        ensures count { length self.new.asked.items ≡ length self.old.asked.items }
+        requires few { (T.view text.old store.old).unread ≤ symbols }
+        ensures addresses { addresses self.new.asked.items ≡ addresses self.old.asked.items }
+        ensures lines { (list : List Symbol) → (T.view text.old store.old).left ≡ Some list
+            → Finds result list self.new.asked.items }
+        ensures spoilt { (list : List Symbol) → T.grows ≡ false → (T.view text.old store.old).left ≡ Some list
+            → SpoiltIfShort result list self.old.asked.items }
         ensures room { T.room store.new ≡ T.room store.old }
         ensures tracks { T.tracks store.new ≡ T.tracks store.old }
         ensures later { T.faults store.old ≤ T.faults store.new }
@@ -54,7 +68,7 @@ impl Lines {
     {
         let last = self.last();
         let mut address = 0;
-        for _ in 0..symbols {
+        loop {
             match text.read_next(store) {
                 Ok(Some(symbol)) => {
                     if is_word(symbol.tag) {
@@ -65,15 +79,20 @@ impl Lines {
                         address += 1;
                     }
                 }
-                Ok(None) => break,
+                Ok(None) => return Err(too_short(symbols)),
                 Err(stop) => return Err(stop_of(stop)),
             }
         }
-        Err(LineStop::Spoilt(Odd {
-            place: u64::from(symbols),
-            word: 0,
-        }))
     }
+}
+
+fn too_short(symbols: u32) -> LineStop
+    ensures { IsSpoilt result }
+{
+    LineStop::Spoilt(Odd {
+        place: u64::from(symbols),
+        word: 0,
+    })
 }
 
 // Whether a symbol of the text of orders is a word of the object.
