@@ -1,6 +1,5 @@
 -- What holds between two bytes while a program is read.
-use Rattle.std.proofs.Common.{◌≡◌, ◌≤◌, ◌+◌, ◌++◌, ℕ, List, [], ◌∷◌, length, Option, None, Some, false, refl, sym, ap, ◌∙◌, arith}
-use Rattle.std.proofs.lemmas.List.Elements.{All-nil}
+use Rattle.std.proofs.Common.{◌≡◌, ◌≤◌, ◌+◌, ℕ, List, length, Option, false, refl, ◌∙◌, arith}
 use Rattle.gier_drum.specs.declared.drum.Entry.{Entry}
 use Rattle.gier_symbol.specs.declared.symbol.Symbol.{Symbol}
 use Rattle.gier_text.specs.declared.tables.Tables.{Tables}
@@ -11,6 +10,7 @@ use Rattle.gier_pass1.specs.Program.{longest}
 use Rattle.gier_pass1.specs.Scanning.{IsScanning}
 use Rattle.gier_pass1.specs.Moves.{owed_symbols, owed_faults}
 use Rattle.gier_pass1.specs.Puts.{Puts, Frame, AddsFaults}
+use Rattle.gier_pass1.proofs.Telling.{IsTelling}
 use Rattle.gier_pass1.proofs.Texts.{HasRead}
 use Rattle.gier_text.proofs.Driven.{tracks_more, tracks_none, apart_as}
 
@@ -20,6 +20,7 @@ pub record IsReading {T S : Type 0} (view : T → S → View) (first end : T →
   pub counted : length text ≡ scanner.state.here.at
   pub scanning : IsScanning scanner
   pub symbols : List Symbol
+  pub telling : IsTelling scanner text symbols (kept tables).faults
   pub puts : Puts symbols (view out_old store_old) (view out store) (journal store_old) (journal store)
   pub few_symbols : (view out store).count + owed_symbols scanner.state.mode ≤ scanner.state.here.at
   pub few_faults : length (kept tables).faults + owed_faults scanner.state.mode ≤ scanner.state.here.at

@@ -1,5 +1,5 @@
 -- The numbers that the reader of words answers are those of words.
-use Rattle.std.proofs.Common.{◌≡◌, ◌++◌, ◌∷◌, [], ℕ, Bool, true, false, List, Option, None, Some, IfSome, IsTrue, refl, sym, ap, ◌∙◌, map, nat_lt, length, subst, rules}
+use Rattle.std.proofs.Common.{◌≡◌, ◌∷◌, [], ℕ, Bool, true, false, List, Option, None, Some, IfSome, IsTrue, refl, map, nat_lt, length, rules}
 use Rattle.std.specs.Prelude.{find, codes, ◌&&◌, if◌then◌else◌, ◌+◌}
 use Rattle.std.specs.List.{list_all}
 use Rattle.std.specs.Option.{option_map}
@@ -9,7 +9,6 @@ use Rattle.gier_symbol.specs.declared.word.Spelling.{Spelling}
 use Rattle.gier_symbol.specs.declared.word.Spelling.TheVariants.{Plain, Quoted}
 use Rattle.gier_symbol.specs.Tags.{name_of, number_of}
 use Rattle.gier_symbol.specs.Words.{word_symbols, tag_named, WordRead, word_ended, is_quote, is_next_letter}
-use Rattle.gier_strop.specs.declared.reader.Fed.{Fed}
 use Rattle.gier_strop.specs.declared.reader.Fed.TheVariants.{More}
 use Rattle.gier_strop.specs.Reading.{answer_of, answer_to, answer_with, answer_before}
 use Rattle.gier_pass1.specs.Moves.{is_word_number, IsKnown}

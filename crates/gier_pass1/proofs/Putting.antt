@@ -1,5 +1,5 @@
 -- Writes one after another are one.
-use Rattle.std.proofs.Common.{◌≡◌, ◌≤◌, ◌++◌, ℕ, List, [], Option, None, Some, append-nil, refl, sym, ap, ◌∙◌, arith, All, OnOk, Result, Ok, Err, IsTrue}
+use Rattle.std.proofs.Common.{◌++◌, List, [], Option, None, Some, append-nil, refl, sym, ap, OnOk, Result, IsTrue}
 use Rattle.std.proofs.lemmas.List.Elements.{All-append, All-nil}
 use Rattle.gier_drum.specs.declared.drum.Entry.{Entry}
 use Rattle.gier_symbol.specs.declared.symbol.Symbol.{Symbol}

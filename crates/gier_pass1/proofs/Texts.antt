@@ -1,5 +1,5 @@
 -- Reading a tape: the bytes read so far have no mark, and stand before those that are left.
-use Rattle.std.proofs.Common.{◌≡◌, ◌≢◌, zero-add, ◌<◌, ◌≤◌, ◌+◌, ℕ, suc, Bool, true, false, if◌then◌else◌, List, [], ◌∷◌, ◌++◌, length, drop, slice_get, Option, None, Some, Err, All, eqb, arith, refl, ap, sym, ◌∙◌, subst, append_assoc, append-nil, length-append}
+use Rattle.std.proofs.Common.{◌≡◌, ◌≢◌, zero-add, ◌<◌, ◌≤◌, ◌+◌, ℕ, suc, false, List, [], ◌∷◌, ◌++◌, length, drop, slice_get, Option, None, Some, Err, All, eqb, arith, refl, ap, sym, ◌∙◌, subst, append_assoc, append-nil, length-append}
 use Rattle.std.proofs.lemmas.List.Elements.{All-nil, All-push, All-head, All-tail}
 use Rattle.std.proofs.lemmas.Bool.Decides.{nat_tests}
 use Rattle.gier_pass1.specs.Program.{longest, program_of, taken_of, GivesByte, GivesEnd, TakesPart, TakesAll, IsCount, IsTooLong, GivesNext, Takes}
@@ -22,7 +22,7 @@ nothing_read (Some tape) = (tape, refl, record { cut = refl; plain = All-nil _ }
 not_mark : (b : ℕ) → b ≢ 35 → eqb b 35 ≡ false
 not_mark b ne = grind (arith, nat_tests)
 
-program_behind : (text rest : List ℕ) → All (λ b. b ≢ 35) text → program_of (text ++ rest) ≡ text ++ program_of rest
+pub program_behind : (text rest : List ℕ) → All (λ b. b ≢ 35) text → program_of (text ++ rest) ≡ text ++ program_of rest
 program_behind [] rest plain = refl
 program_behind (b ∷ text) rest plain =
     let other : eqb b 35 ≡ false = not_mark b (All-head (λ (c : ℕ). c ≢ 35) b text plain) in

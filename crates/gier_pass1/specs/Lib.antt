@@ -4,3 +4,4 @@ pub mod Moves
 pub mod Program
 pub mod Puts
 pub mod Scanning
+pub mod Told

@@ -1,10 +1,8 @@
 -- What the first pass does to its output, its store and the tables.
-use Rattle.std.specs.Prelude.{◌≡◌, ◌≤◌, ◌<◌, ◌+◌, ◌++◌, ℕ, List, [], ◌∷◌, length, All, IsTrue, Option, Result, Ok, Err}
+use Rattle.std.specs.Prelude.{◌≡◌, ◌≤◌, ◌+◌, ℕ, List, [], ◌∷◌, length, All, IsTrue, Option, Result, Ok, Err}
 use Rattle.gier_drum.specs.declared.drum.Entry.{Entry}
 use Rattle.gier_symbol.specs.declared.symbol.Symbol.{Symbol}
 use Rattle.gier_symbol.specs.Texts.{stands_in}
-use Rattle.gier_text.specs.declared.fault.Fault.{Fault}
-use Rattle.gier_text.specs.declared.pass.PassStop.{PassStop}
 use Rattle.gier_text.specs.Kept.{Kept}
 use Rattle.gier_text.specs.Log.{Logged}
 use Rattle.gier_text.specs.Passes.{SpoiltIf}

@@ -1,15 +1,12 @@
 -- What each step of the reading gives, by the rules of the source form.
-use Rattle.std.specs.Prelude.{◌≡◌, ◌==◌, ◌||◌, ◌+◌, ◌-◌, ℕ, Bool, true, false, nat_le, if◌then◌else◌, List, [], ◌∷◌, ◌++◌, Option, None, Some}
-use Rattle.gier_symbol.specs.declared.symbol.Symbol.{Symbol}
+use Rattle.std.specs.Prelude.{◌==◌, ◌||◌, ◌+◌, ◌-◌, ℕ, Bool, true, false, nat_le, if◌then◌else◌, Option, None, Some}
 use Rattle.gier_symbol.specs.declared.tag.Tag.{Tag}
-use Rattle.gier_symbol.specs.declared.tag.Tag.TheVariants.{Letter, Digit, StringBegin, StringByte, StringEnd, TextEnd, Semicolon, Begin, End, Else}
-use Rattle.gier_symbol.specs.declared.word.Spelling.{Spelling}
+use Rattle.gier_symbol.specs.declared.tag.Tag.TheVariants.{Letter, Digit, StringBegin, StringByte, StringEnd, Semicolon, Begin, End, Else}
 use Rattle.gier_symbol.specs.declared.word.Spelling.TheVariants.{Plain, Quoted}
 use Rattle.gier_symbol.specs.Tags.{number_of}
 use Rattle.gier_symbol.specs.Words.{comment_word as comment_number}
 use Rattle.gier_strop.specs.declared.reader.Fed.{Fed}
 use Rattle.gier_strop.specs.declared.reader.Fed.TheVariants.{More, Word, Fault as FaultFed, WordBefore, FaultBefore}
-use Rattle.gier_text.specs.declared.fault.Fault.{Fault}
 use Rattle.gier_text.specs.declared.fault.FaultKind.{FaultKind}
 use Rattle.gier_text.specs.declared.fault.FaultKind.TheVariants.{Character, Word as WordFault, Unclosed}
 use Rattle.gier_pass1.specs.declared.bytes.Opener.{Opener}
@@ -38,6 +35,16 @@ line_after line byte = if byte == 10 then line + 1 else line
 -- at the next byte
 abbrev pub passed : State → ℕ → State
 passed state byte = record state { here = record { at = state.here.at + 1; line = line_after state.here.line byte } }
+
+abbrev pub is_start : Mode → Bool
+is_start Start = true
+is_start Between = false
+is_start (AfterOpener opener) = false
+is_start InWord = false
+is_start (InString depth) = false
+is_start InComment = false
+is_start InSkipped = false
+is_start InSkippedWord = false
 
 abbrev pub in_word : Mode → Bool
 in_word Start = false

@@ -7,6 +7,7 @@ ghost use Rattle.gier_text.specs.Passes.{HasLess, SpoiltIf};
 ghost use Rattle.gier_text.specs.View.{IsFull};
 ghost use Rattle.gier_pass1.specs.Moves.{IsLetter, symbols_in, faults_in};
 ghost use Rattle.gier_pass1.specs.Puts.{Frame, Puts, AddsFaults, letters_in};
+ghost use Rattle.gier_pass1.specs.Told.{AddsFound, AddsFounds};
 
 use crate::scanner::Founds;
 use crate::state::Found;
@@ -27,6 +28,7 @@ pub(crate) fn put<T: Text>(
     ensures puts { OnOk result (Puts (letters_in founds.ended ++ letters_in founds.begun) (T.view out.old store.old) (T.view out.new store.new) (T.journal store.old) (T.journal store.new)) }
     ensures counted { OnOk result ((T.view out.new store.new).count ≡ (T.view out.old store.old).count + (symbols_in founds.ended + symbols_in founds.begun)) }
     ensures tables { AddsFaults (kept tables.old) (kept tables.new) (faults_in founds.ended + faults_in founds.begun) }
+    ensures added { OnOk result (AddsFounds (kept tables.old).faults founds.ended founds.begun (kept tables.new).faults) }
     ensures frame { Frame T.view T.first_track T.end_track T.room T.tracks T.faults out.old store.old out.new store.new }
     ensures failed { IsErrOf result Drum → HasRisen (T.faults store.old) (T.faults store.new) }
     ensures memory { IsErrOf result Memory → IsTrue T.grows }
@@ -51,6 +53,7 @@ fn emit<T: Text>(
     ensures puts { OnOk result (Puts (letters_in found) (T.view out.old store.old) (T.view out.new store.new) (T.journal store.old) (T.journal store.new)) }
     ensures counted { OnOk result ((T.view out.new store.new).count ≡ (T.view out.old store.old).count + symbols_in found) }
     ensures tables { AddsFaults (kept tables.old) (kept tables.new) (faults_in found) }
+    ensures added { AddsFound (kept tables.old).faults found (kept tables.new).faults }
     ensures frame { Frame T.view T.first_track T.end_track T.room T.tracks T.faults out.old store.old out.new store.new }
     ensures failed { IsErrOf result Drum → HasRisen (T.faults store.old) (T.faults store.new) }
     ensures memory { IsErrOf result Memory → IsTrue T.grows }

@@ -9,6 +9,7 @@ ghost use Rattle.gier_text.specs.View.{IsEmpty, IsFull};
 ghost use Rattle.gier_pass1.specs.declared.read.ReadStop.TheVariants.{Read, Pass};
 ghost use Rattle.gier_pass1.specs.Program.{longest, Takes};
 ghost use Rattle.gier_pass1.specs.Puts.{Frame, Puts, AddsFaults, NeverSpoilt};
+ghost use Rattle.gier_pass1.specs.Told.{TellsAll};
 
 use crate::emit::put;
 use crate::program::next_byte;
@@ -35,7 +36,7 @@ impl Pass1 {
     /// Takes the program text from the tape, writes its symbols and adds its faults of characters, words and strings.
     /// It gives the number of bytes of the program text.
     ///
-    /// The position of a fault is the number of its byte, from 0. Where there is a fault, it isn't said which symbols
+    /// The position of a fault is the number of its byte, from 0. Where a string is open, it isn't said which symbols
     /// are written.
     pub fn read<S: Source, T: Text>(
         tape: &mut S,
@@ -59,6 +60,7 @@ impl Pass1 {
         ensures full { IsErrOf result (Pass Full) → IsFull (T.view out.new store.new) }
         ensures roomy { IsErrOf result (Pass Full) → HasLess (T.view out.old store.old) (longest + 1) }
         ensures sound { NeverSpoilt result }
+        ensures told { IfOk result (TellsAll (S.left tape.old) tables.new T.view T.journal out.old store.old out.new store.new) }
     {
         let mut scanner = Scanner::new();
         'bytes: loop {

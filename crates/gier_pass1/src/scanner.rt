@@ -1,13 +1,14 @@
 // Takes a program byte by byte, with a reader for its words, and tells what each byte gives. Nothing is written here.
-ghost use Rattle.std.specs.Prelude.{◌≡◌, ◌<◌, ◌≤◌, ◌+◌, ◌^◌};
+ghost use Rattle.std.specs.Prelude.{◌≡◌, ◌<◌, ◌≤◌, ◌+◌, ◌^◌, [], None};
 ghost use Rattle.gier_strop.specs.declared.reader.Fed.TheVariants.{More};
 ghost use Rattle.gier_symbol.specs.declared.tag.Tag.TheVariants.{TextEnd};
 ghost use Rattle.gier_pass1.specs.Moves.{IsLetter, IsKnown, HasLines, Ends, Moves, symbols_in, faults_in, owed_symbols, owed_faults};
 ghost use Rattle.gier_pass1.specs.Program.{longest};
-ghost use Rattle.gier_pass1.specs.Scan.{depth_of, start_state, here_symbol};
-ghost use Rattle.gier_pass1.specs.Scanning.{IsScanning, HasLetters};
+ghost use Rattle.gier_pass1.specs.Scan.{depth_of, start_state, here_symbol, at_end};
+ghost use Rattle.gier_pass1.specs.Scanning.{IsScanning, HasLetters, ReadsLetters, IfRead, IfBehind, FeedsAny, KeepsLetters};
+ghost use Rattle.gier_pass1.specs.Scanning.{EndsWord, EndsStep, TakesByte, ended_step, begun_step};
 
-use crate::state::{Found, Mode, State, Step, start_state};
+use crate::state::{Found, State, Step, start_state};
 use crate::steps::{at_end, goes, sign_step, taken_step, word_step};
 use gier_strop::{Fed, Spelling, WordReader};
 use gier_symbol::Tag;
@@ -32,6 +33,7 @@ impl Scanner {
     pub(crate) fn new() -> Scanner
         ensures state { result.state ≡ start_state }
         ensures scanning { IsScanning result }
+        ensures letters { ReadsLetters result.state result.reader [] }
     {
         Scanner {
             state: start_state(),
@@ -49,6 +51,7 @@ impl Scanner {
         ensures begun { IsLetter result.begun }
         ensures symbols { symbols_in result.ended + symbols_in result.begun + owed_symbols self.new.state.mode ≤ owed_symbols self.old.state.mode + 1 }
         ensures faults { faults_in result.ended + faults_in result.begun + owed_faults self.new.state.mode ≤ owed_faults self.old.state.mode + 1 }
+        ensures told { IfRead self.old (λ letters. TakesByte self.old letters byte result self.new) }
     {
         let ended = self.ended(Some(byte));
         let begun = self.begun(ended, byte);
@@ -68,6 +71,7 @@ impl Scanner {
         ensures letter { IsLetter result.begun }
         ensures symbols { symbols_in result.ended ≤ owed_symbols self.old.state.mode }
         ensures faults { faults_in result.ended ≤ owed_faults self.old.state.mode }
+        ensures told { IfRead self.old (λ letters. result.ended ≡ at_end (ended_step self.old.state letters None)) }
     {
         let ended = self.ended(None);
         Founds {
@@ -83,6 +87,7 @@ impl Scanner {
         ensures state { self.new.state ≡ self.old.state }
         ensures ends { Ends self.old.state result }
         ensures letter { IsLetter result.found }
+        ensures told { IfRead self.old (λ letters. EndsStep self.old.state letters byte result self.new.reader) }
     {
         if self.state.in_word() {
             return self.word_ended(byte);
@@ -96,6 +101,7 @@ impl Scanner {
         ensures state { self.new.state ≡ self.old.state }
         ensures ends { Ends self.old.state result }
         ensures letter { IsLetter result.found }
+        ensures told { IfBehind self.old (λ letters. EndsWord self.old.state letters byte result self.new.reader) }
     {
         match feed(&mut self.reader, byte) {
             Fed::More => goes(self.state),
@@ -115,12 +121,14 @@ impl Scanner {
         ensures state { self.new.state ≡ self.old.state }
         ensures moves { Moves ended.state result }
         ensures letter { IsLetter result.found }
+        ensures step { result ≡ begun_step ended byte }
+        ensures told { KeepsLetters ended.state self.old.reader result.state self.new.reader }
     {
         if ended.taken {
             return goes(ended.state);
         }
         let step = taken_step(ended.state, byte);
-        if ended.state.mode == Mode::Start {
+        if ended.state.is_start() {
             self.reader = WordReader::new(step.state.spelling);
         }
         step
@@ -132,6 +140,7 @@ fn feed(reader: &mut WordReader, byte: Option<u8>) -> Fed
     requires { HasLetters reader.old }
     ensures known { IsKnown result }
     ensures more { result ≡ More → HasLetters reader.new }
+    ensures told { FeedsAny reader.old byte result reader.new }
 {
     reader.feed(byte)
 }

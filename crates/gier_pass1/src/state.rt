@@ -2,7 +2,7 @@
 ghost use Rattle.std.specs.Prelude.{◌≡◌, ◌<◌, ◌^◌, IsTrue};
 ghost use Rattle.gier_symbol.specs.Tags.{number_of};
 ghost use Rattle.gier_symbol.specs.Texts.{stands_in};
-ghost use Rattle.gier_pass1.specs.Scan.{began_symbol, here_symbol, began_fault, here_fault, start_state, passed, in_word, line_after};
+ghost use Rattle.gier_pass1.specs.Scan.{began_symbol, here_symbol, began_fault, here_fault, start_state, passed, is_start, in_word, line_after};
 ghost use Rattle.gier_pass1.specs.Moves.{IsLetter};
 
 use crate::bytes::Opener;
@@ -93,6 +93,16 @@ impl State {
                 line: line_after(self.here.line, byte),
             },
             ..self
+        }
+    }
+
+    /// Whether nothing was read yet.
+    pub(crate) fn is_start(self) -> bool
+        ensures { result ≡ is_start self.mode }
+    {
+        match self.mode {
+            Mode::Start => true,
+            _ => false,
         }
     }
 
