@@ -3,4 +3,12 @@ pub mod Given
 pub mod Waiting
 pub mod Names
 pub mod Runs
+pub mod Exact
+pub mod Spelled
+pub mod Tree
+pub mod Standard
+pub mod Reading
+pub mod Grouping
+pub mod Following
+pub mod Characters
 pub mod Standing

@@ -5,9 +5,12 @@ use Rattle.gier_symbol.specs.Texts.{stands_in}
 use Rattle.gier_text.specs.Kept.{Kept}
 use Rattle.gier_text.specs.Lists.{list_at}
 use Rattle.gier_pass2.specs.declared.pass.Pass2.{Pass2}
+use Rattle.gier_pass2.specs.Exact.{IsExact}
+use Rattle.gier_pass2.specs.Following.{Follows}
 use Rattle.gier_pass2.specs.Letters.{IsWritable, IsEnded, ends, ends_with}
 use Rattle.gier_pass2.specs.Names.{HasNodes, node_count}
 use Rattle.gier_pass2.specs.Runs.{IsRun, running}
+use Rattle.gier_pass2.specs.Spelled.{IsSpelled}
 use Rattle.gier_pass2.specs.Waiting.{symbols_of, IsWaiting}
 
 -- how many symbols are still to be given for those that were taken
@@ -47,13 +50,16 @@ pub record Stands (pass : Pass2) (t : Kept) (read written : List Symbol) : Type 
   pub inner : ends (symbols_of pass.waiting) ≡ 0
   pub same_ends : ends written ≡ ends read
   pub last : ends_with false read ≡ true → (ends_with false written ≡ true) × (waiting_in pass ≡ 0)
+  pub follows : All IsSpelled read → Follows pass t read written
 
 -- no more symbols are written than were taken, and they are letters of text 2; where the end is last and
--- nowhere else in what was taken, so it is in what was written
+-- nowhere else in what was taken, so it is in what was written; where all letters and digits are spelled, they are what
+-- the definition assembles of those that were taken, and the faults are its faults
 pub record Relates (pass : Pass2) (t : Kept) (read written : List Symbol) : Type 0 where
   pub few : length written ≤ length read
   pub letters : All (IsWritable pass.bytes) written
   pub ended : IsEnded read → IsEnded written
+  pub exact : All IsSpelled read → IsExact t read written
 
 -- letters of text 1, at most one for each byte and one for the end
 pub record IsTextOne (bytes : ℕ) (list : List Symbol) : Type 0 where

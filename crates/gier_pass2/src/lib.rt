@@ -3,11 +3,13 @@
 
 mod commas;
 mod few;
+mod laws;
 mod names;
 mod pass;
 mod runs;
 mod writing;
 
+pub use laws::{law_characters, law_spelled};
 pub use pass::Pass2;
 
 #[cfg(test)]

@@ -1,11 +1,15 @@
 // The tree of names: each identifier that was read, letter by letter, with its number.
 //
 // A node stands for a name. Its children are the names with one symbol more; each links to the one that came before it.
-ghost use Rattle.std.specs.Prelude.{◌≡◌, ◌≤◌, ◌<◌, ◌+◌, ◌*◌, ◌^◌, length};
+ghost use Rattle.std.specs.Prelude.{◌≡◌, ◌≤◌, ◌<◌, ◌+◌, ◌*◌, ◌^◌, ◌++◌, ◌∷◌, [], ℕ, List, length, drop, slice_index};
+ghost use Rattle.gier_symbol.specs.Assembled.{byte_of, standard_names};
 ghost use Rattle.gier_symbol.specs.Symbols.{IsSymbol};
 ghost use Rattle.gier_text.specs.Kept.{kept};
-ghost use Rattle.gier_text.specs.Lists.{list_at};
+ghost use Rattle.gier_text.specs.Lists.{list_at, word_at, with_word};
 ghost use Rattle.gier_pass2.specs.Names.{HasNodes, KeepsNodes, node_count};
+ghost use Rattle.gier_pass2.specs.Spelled.{IsSign};
+ghost use Rattle.gier_pass2.specs.Standard.{Spells, standard_bytes};
+ghost use Rattle.gier_pass2.specs.Tree.{Tree, IsTree, IsChild, Knows, Names, IsNumberOf, child_added, nodes_of, sign_at, is_same};
 
 use gier_symbol::{Symbol, Tag};
 use gier_text::Tables;
@@ -40,7 +44,9 @@ fn link(tables: &Tables, node: u32, part: u8, below: u32) -> u32
     requires node { node < node_count (kept tables.now) }
     requires part { part < 5 }
     requires some { 0 < below }
-    ensures { result < below }
+    ensures below { result < below }
+    ensures word { word_at (nodes_of (kept tables.now)) node part < below
+        → result ≡ word_at (nodes_of (kept tables.now)) node part }
 {
     let word = tables.word(NODES, node, part);
     if word < u64::from(below) {
@@ -53,6 +59,7 @@ fn link(tables: &Tables, node: u32, part: u8, below: u32) -> u32
 fn is_at(tables: &Tables, node: u32, s: Symbol) -> bool
     requires nodes { HasNodes (kept tables.now) }
     requires node { node < node_count (kept tables.now) }
+    ensures { result ≡ is_same (sign_at (nodes_of (kept tables.now)) node) s }
 {
     tables.word(NODES, node, TAG) == u64::from(s.tag) && tables.word(NODES, node, VALUE) == s.value
 }
@@ -61,7 +68,9 @@ fn is_at(tables: &Tables, node: u32, s: Symbol) -> bool
 fn child(tables: &Tables, node: u32, s: Symbol) -> u32
     requires nodes { HasNodes (kept tables.now) }
     requires node { node < node_count (kept tables.now) }
-    ensures { result < node_count (kept tables.now) }
+    ensures node { result < node_count (kept tables.now) }
+    ensures found { (tree : Tree) → IsTree (nodes_of (kept tables.now)) tree
+        → IsChild (nodes_of (kept tables.now)) tree node s result }
 {
     let mut at = link(tables, node, CHILD, tables.len(NODES));
     while at != ROOT && !is_at(tables, at, s) {
@@ -79,6 +88,8 @@ fn add_child(tables: &mut Tables, node: u32, s: Symbol) -> u32
     ensures kept { KeepsNodes (kept tables.old) (kept tables.new) }
     ensures more { node_count (kept tables.new) ≡ node_count (kept tables.old) + 1 }
     ensures node { result < node_count (kept tables.new) }
+    ensures added { nodes_of (kept tables.new) ≡ child_added (nodes_of (kept tables.old)) node s }
+    ensures last { result ≡ node_count (kept tables.old) }
 {
     let elder = tables.word(NODES, node, CHILD);
     let at = tables.len(NODES);
@@ -97,6 +108,8 @@ pub(crate) fn step(tables: &mut Tables, node: u32, s: Symbol) -> u32
     ensures kept { KeepsNodes (kept tables.old) (kept tables.new) }
     ensures few { node_count (kept tables.new) ≤ node_count (kept tables.old) + 1 }
     ensures node { result < node_count (kept tables.new) }
+    ensures names { (tree : Tree) → (known : ℕ) → (names : List (List ℕ)) → Knows (kept tables.old) tree known names → IsSign s
+        → Names (kept tables.new) known names result (tree.name node ++ byte_of s ∷ []) }
 {
     let known = child(tables, node, s);
     if known != ROOT {
@@ -114,6 +127,8 @@ pub(crate) fn first(tables: &mut Tables, s: Symbol) -> u32
     ensures kept { KeepsNodes (kept tables.old) (kept tables.new) }
     ensures few { node_count (kept tables.new) ≤ node_count (kept tables.old) + 1 }
     ensures node { result < node_count (kept tables.new) }
+    ensures names { (tree : Tree) → (known : ℕ) → (names : List (List ℕ)) → Knows (kept tables.old) tree known names → IsSign s
+        → Names (kept tables.new) known names result (byte_of s ∷ []) }
 {
     step(tables, ROOT, s)
 }
@@ -127,6 +142,8 @@ pub(crate) fn number(tables: &mut Tables, node: u32, names: &mut u32) -> u64
     ensures same { node_count (kept tables.new) ≡ node_count (kept tables.old) }
     ensures few { names.new ≤ names.old + 1 }
     ensures value { result < names.new }
+    ensures number { (tree : Tree) → (list : List (List ℕ)) → Knows (kept tables.old) tree names.old list
+        → IsNumberOf (kept tables.new) tree names.new list (tree.name node) result }
 {
     let known = tables.word(NODES, node, NUMBER);
     if known != 0 && known <= u64::from(*names) {
@@ -136,6 +153,45 @@ pub(crate) fn number(tables: &mut Tables, node: u32, names: &mut u32) -> u64
     *names = number + 1;
     tables.set_word(NODES, node, NUMBER, u64::from(number) + 1);
     u64::from(number)
+}
+
+// The node of the standard name with one letter more. A space ends the name, and gives the root.
+fn spell(tables: &mut Tables, node: u32, byte: u8, names: &mut u32) -> u32
+    requires nodes { HasNodes (kept tables.old) }
+    requires node { node < node_count (kept tables.old) }
+    requires room { node_count (kept tables.old) < (list_at (kept tables.old).lists 0).capacity }
+    requires small { (list_at (kept tables.old).lists 0).capacity < 2 ^ 32 }
+    requires few { names.old + 1 < 2 ^ 32 }
+    ensures kept { KeepsNodes (kept tables.old) (kept tables.new) }
+    ensures few { node_count (kept tables.new) ≤ node_count (kept tables.old) + 1 }
+    ensures node { result < node_count (kept tables.new) }
+    ensures names { names.new ≤ names.old + 1 }
+    ensures spells { (i : ℕ) → i < length standard_bytes → byte ≡ slice_index standard_bytes i
+        → Spells (kept tables.old) names.old node (drop i standard_bytes)
+        → Spells (kept tables.new) names.new result (drop (i + 1) standard_bytes) }
+{
+    if byte == b' ' {
+        number(tables, node, names);
+        return ROOT;
+    }
+    step(tables, node, Symbol::new(Tag::Letter, u64::from(byte), 0))
+}
+
+// Opens the tree with its first node.
+fn plant(tables: &mut Tables, bytes: u32)
+    requires cleared { length (kept tables.old).lists ≡ 0 }
+    requires unused { (kept tables.old).used ≡ 0 }
+    requires limit { (kept tables.old).limit ≤ 2 ^ 19 }
+    requires bytes { bytes ≤ (kept tables.old).limit }
+    ensures nodes { HasNodes (kept tables.new) }
+    ensures one { node_count (kept tables.new) ≡ 1 }
+    ensures capacity { (list_at (kept tables.new).lists 0).capacity ≡ bytes + 64 }
+    ensures limit { (kept tables.new).limit ≡ (kept tables.old).limit }
+    ensures faults { (kept tables.new).faults ≡ (kept tables.old).faults }
+    ensures spells { Spells (kept tables.new) 0 0 standard_bytes }
+{
+    tables.list(WIDTH, bytes + STANDARD_ROOM);
+    tables.push(NODES, &[0, 0, 0, 0, 0]);
 }
 
 /// Opens the tree with the standard identifiers, and gives how many they are.
@@ -150,18 +206,13 @@ pub(crate) fn open(tables: &mut Tables, bytes: u32) -> u32
     ensures limit { (kept tables.new).limit ≡ (kept tables.old).limit }
     ensures faults { (kept tables.new).faults ≡ (kept tables.old).faults }
     ensures names { result ≤ 60 }
+    ensures standard { Names (kept tables.new) result standard_names 0 [] }
 {
-    tables.list(WIDTH, bytes + STANDARD_ROOM);
-    tables.push(NODES, &[0, 0, 0, 0, 0]);
+    plant(tables, bytes);
     let mut names = 0u32;
     let mut node = ROOT;
     for byte in STANDARD {
-        if *byte == b' ' {
-            number(tables, node, &mut names);
-            node = ROOT;
-        } else {
-            node = step(tables, node, Symbol::new(Tag::Letter, u64::from(*byte), 0));
-        }
+        node = spell(tables, node, *byte, &mut names);
     }
     names
 }

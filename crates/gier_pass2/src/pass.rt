@@ -1,18 +1,23 @@
 // The pass: which run it is in, what waits, and how many symbols it has taken.
-ghost use Rattle.std.specs.Prelude.{◌≡◌, ◌≤◌, ◌<◌, ◌+◌, ◌*◌, [], length, All, IsTrue};
+ghost use Rattle.std.specs.Prelude.{◌≡◌, ◌≤◌, ◌<◌, ◌+◌, ◌*◌, ◌++◌, ◌∷◌, [], List, length, All, IsTrue};
+ghost use Rattle.gier_symbol.specs.declared.symbol.Symbol.{Symbol};
+ghost use Rattle.gier_symbol.specs.Assembled.{Run as RunOf, runs};
 ghost use Rattle.gier_symbol.specs.Symbols.{IsSymbol};
 ghost use Rattle.gier_symbol.specs.Texts.{stands_in};
 ghost use Rattle.gier_text.specs.Kept.{kept, fresh};
 ghost use Rattle.gier_pass2.specs.Letters.{IsWritable, ends, end_in, is_end};
+ghost use Rattle.gier_pass2.specs.Exact.{IsExact};
+ghost use Rattle.gier_pass2.specs.Following.{IsDoing, Follows};
 ghost use Rattle.gier_pass2.specs.Given.{listed};
 ghost use Rattle.gier_pass2.specs.Waiting.{symbols_of};
 ghost use Rattle.gier_pass2.specs.Runs.{running};
+ghost use Rattle.gier_pass2.specs.Spelled.{IsSpelled};
 ghost use Rattle.gier_pass2.specs.Standing.{IsReady, HasRun, Stands, Relates, IsTextOne, Closes, waiting_in};
 
 use crate::commas::{Waiting, feed, give};
 use crate::few::Few;
 use crate::names;
-use crate::runs::{Run, begun, ended, goes_on, grown};
+use crate::runs::{Run, begun, ended, goes_on, grown, is_none};
 use crate::writing::write_all;
 use gier_symbol::{Alphabet, Coded, Symbol};
 use gier_text::{Pass, PassStop, Tables, Text};
@@ -34,6 +39,7 @@ pub struct Pass2 {
 
 impl Pass2 {
     /// The pass over text 1 of a program of so many bytes. The tables must be cleared and hold no fault.
+    #[tactic(auto, using(crate::proofs::FollowOn::follows_none))]
     pub fn open(tables: &mut Tables, bytes: u32) -> Pass2
         requires cleared { kept tables.old ≡ fresh (kept tables.old).limit }
         requires bytes { bytes ≤ (kept tables.old).limit }
@@ -65,6 +71,9 @@ impl Pass2 {
         ensures writable { All (IsWritable self.old.bytes) (listed result) }
         ensures of_bytes { result.bytes ≡ self.old.bytes }
         ensures no_end { ends (listed result) + ends (symbols_of self.new.waiting) ≡ 0 }
+        ensures doing { (done : List RunOf) → (pending written : List Symbol)
+            → IsDoing self.old (kept tables.old) done pending written
+            → IsDoing self.new (kept tables.new) (done ++ runs pending 0) [] (written ++ listed result) }
     {
         let mut ready = Few::none(self.bytes);
         if let Some(word) = ended(self.run, tables, &mut self.known) {
@@ -91,6 +100,8 @@ impl Pass2 {
         ensures inner { ends (symbols_of self.new.waiting) ≡ 0 }
         ensures ends { ends (listed result) ≡ end_in (is_end s) }
         ensures last { IsTrue (is_end s) → Closes (listed result) × (waiting_in self.new ≡ 0) }
+        ensures follows { (read written : List Symbol) → Follows self.old (kept tables.old) read written → IsSpelled s
+            → Follows self.new (kept tables.new) (read ++ s ∷ []) (written ++ listed result) }
     {
         if goes_on(self.run, s) {
             self.run = grown(self.run, s, tables);
@@ -100,7 +111,7 @@ impl Pass2 {
         let mut ready = self.finish(tables);
         self.run = begun(s, self.read, tables);
         self.read += 1;
-        if self.run == Run::Nothing {
+        if is_none(self.run) {
             self.waiting = feed(self.waiting, s, false, &mut ready);
         }
         ready
@@ -113,6 +124,8 @@ impl Pass2 {
         ensures few { length (listed result) ≤ waiting_in self.old }
         ensures limit { (kept tables.new).limit ≡ (kept tables.old).limit }
         ensures no_end { ends (listed result) ≡ 0 }
+        ensures exact { (read written : List Symbol) → Follows self.old (kept tables.old) read written
+            → IsExact (kept tables.new) read (written ++ listed result) }
         ensures writable { All (IsWritable self.old.bytes) (listed result) }
         ensures of_bytes { result.bytes ≡ self.old.bytes }
         ensures read { self.new.read ≡ self.old.read }

@@ -1,11 +1,17 @@
 // Runs of letters and digits, of which each is one identifier or one number.
-ghost use Rattle.std.specs.Prelude.{◌≡◌, ◌≤◌, ◌<◌, ◌+◌, ◌*◌, ◌^◌, ℕ, length, IsTrue, IfSome, min, false, true};
+ghost use Rattle.std.specs.Prelude.{◌≡◌, ◌≤◌, ◌<◌, ◌+◌, ◌*◌, ◌^◌, ◌++◌, ◌∷◌, [], ℕ, List, length, IsTrue, IfSome, min, false, true};
+ghost use Rattle.gier_symbol.specs.declared.symbol.Symbol.{Symbol};
+ghost use Rattle.gier_symbol.specs.Assembled.{Run as RunOf};
 ghost use Rattle.gier_symbol.specs.Symbols.{IsSymbol};
 ghost use Rattle.gier_text.specs.Kept.{kept};
 ghost use Rattle.gier_text.specs.Lists.{list_at};
+ghost use Rattle.gier_pass2.specs.declared.runs.Run.TheVariants.{Nothing};
+ghost use Rattle.gier_pass2.specs.Following.{IsEndedRun};
 ghost use Rattle.gier_pass2.specs.Letters.{is_end, IsWritable};
 ghost use Rattle.gier_pass2.specs.Names.{HasNodes, KeepsNodes, node_count};
+ghost use Rattle.gier_pass2.specs.Reading.{IsReading, begun_by};
 ghost use Rattle.gier_pass2.specs.Runs.{IsRun, EndsAs, running, goes_on, begins, Values};
+ghost use Rattle.gier_pass2.specs.Spelled.{IsSpelled};
 ghost use Rattle.gier_pass2.specs.Waiting.{is_kind};
 
 use crate::names;
@@ -47,6 +53,18 @@ fn is(kind: Tag, s: Symbol) -> bool
     s.tag == kind.number()
 }
 
+/// Whether no run is read.
+pub(crate) fn is_none(run: Run) -> bool
+    ensures none { result ≡ true → running run ≡ 0 }
+    ensures some { result ≡ false → running run ≡ 1 }
+{
+    match run {
+        Run::Nothing => true,
+        Run::Name { .. } => false,
+        Run::Number { .. } => false,
+    }
+}
+
 /// Whether the run has the symbol too.
 pub(crate) fn goes_on(run: Run, s: Symbol) -> bool
     ensures { result ≡ goes_on run s }
@@ -78,6 +96,9 @@ pub(crate) fn grown(run: Run, s: Symbol, tables: &mut Tables) -> Run
     ensures few { node_count (kept tables.new) ≤ node_count (kept tables.old) + 1 }
     ensures run { IsRun result (node_count (kept tables.new)) }
     ensures running { running result ≡ running run }
+    ensures reads { (known : ℕ) → (read : ℕ) → (done : List RunOf) → (pending : List Symbol)
+        → IsReading (kept tables.old) known run read done pending → IsSpelled s
+        → IsReading (kept tables.new) known result (read + 1) done (pending ++ s ∷ []) }
 {
     match run {
         Run::Nothing => Run::Nothing,
@@ -108,6 +129,8 @@ pub(crate) fn begun(s: Symbol, position: u32, tables: &mut Tables) -> Run
     ensures few { node_count (kept tables.new) ≤ node_count (kept tables.old) + 1 }
     ensures run { IsRun result (node_count (kept tables.new)) }
     ensures running { running result ≡ begins s }
+    ensures reads { (known : ℕ) → (done : List RunOf) → IsReading (kept tables.old) known Nothing position done [] → IsSpelled s
+        → IsReading (kept tables.new) known result (position + 1) done (begun_by s) }
 {
     if is(Tag::Letter, s) {
         return Run::Name {
@@ -159,6 +182,9 @@ pub(crate) fn ended(run: Run, tables: &mut Tables, known: &mut u32) -> Option<As
     ensures ends { EndsAs run result }
     ensures writable { IfSome result (λ word. (bytes : ℕ) → known.new ≤ bytes + 64 → IsWritable bytes word.symbol) }
     ensures no_end { IfSome result (λ word. is_end word.symbol ≡ false) }
+    ensures reads { (read : ℕ) → (done : List RunOf) → (pending : List Symbol)
+        → IsReading (kept tables.old) known.old run read done pending
+        → IsEndedRun (kept tables.new) known.new read done pending result }
 {
     match run {
         Run::Nothing => None,

@@ -1,7 +1,8 @@
-use Rattle.std.proofs.Common.{◌<◌, ◌≤◌, ◌≡◌, ◌+◌}
+use Rattle.std.proofs.Common.{◌<◌, ◌≤◌, ◌≡◌, ◌+◌, drop}
 use Rattle.gier_text.specs.Kept.{kept}
 use Rattle.gier_text.specs.Lists.{list_at}
 use Rattle.gier_pass2.specs.Names.{HasNodes, node_count}
+use Rattle.gier_pass2.specs.Standard.{Spells, standard_bytes}
 use Rattle.gier_pass2.proofs.names.open.Given as goal
 
 abbrev pub invariant-loop-byte : goal.invariant-loop-byte
@@ -13,4 +14,5 @@ invariant-loop-byte l = record {
   names : l.names ≤ l.byte-index;
   limit : (kept l.tables).limit ≡ (kept l.fn.tables).limit;
   faults : (kept l.tables).faults ≡ (kept l.fn.tables).faults;
+  spells : Spells (kept l.tables) l.names l.node (drop l.byte-index standard_bytes);
 }

@@ -1,4 +1,5 @@
 use Rattle.std.proofs.Common.{arith, ◌≤◌, length}
+use Rattle.gier_text.specs.Kept.{kept}
 use Rattle.gier_pass2.specs.Given.{listed}
 use Rattle.gier_pass2.specs.declared.commas.Waiting.{Waiting}
 use Rattle.gier_pass2.specs.declared.commas.Waiting.TheVariants.{Nothing as NothingWaits, Shut, Name as NameWaits, Colon}
@@ -6,6 +7,7 @@ use Rattle.gier_pass2.specs.declared.runs.Run.{Run}
 use Rattle.gier_pass2.specs.declared.runs.Run.TheVariants.{Nothing, Name, Number}
 use Rattle.gier_pass2.specs.Runs.{running}
 use Rattle.gier_pass2.specs.Waiting.{symbols_of}
+use Rattle.gier_pass2.proofs.FollowOn.{exact_end, no_run}
 use Rattle.gier_pass2.proofs.GoingOn.{ends_append}
 use Rattle.gier_pass2.proofs.pass.Pass2.rest.Goals as goal
 
@@ -24,4 +26,13 @@ pub give-requires-clause-room : goal.give-requires-clause-room
 give-requires-clause-room c = omega (arith, c.finish-ready.ensures.few, three_wait c.args.self.now.waiting, one_run c.args.self.now.run)
 
 pub returns-clause-no_end : goal.returns-clause-no_end
-returns-clause-no_end c = rw c.give.ensures.given (omega (arith, ends_append (listed c.finish-ready.result) (symbols_of c.finish-ready.new.self.waiting), c.finish-ready.ensures.no_end))
+returns-clause-no_end c = rw c.give.ensures.given (omega
+    (arith, ends_append (listed c.finish-ready.result) (symbols_of c.finish-ready.new.self.waiting), c.finish-ready.ensures.no_end))
+
+pub returns-clause-exact : goal.returns-clause-exact
+returns-clause-exact c = λ read written follows.
+    let doing = c.finish-ready.ensures.doing follows.done follows.pending written follows.doing in
+    exact_end c.args.self.now (kept c.args.tables.now)
+    (kept c.finish-ready.new.tables) c.finish-ready.new.self.known c.finish-ready.new.self.read c.finish-ready.new.self.waiting read
+    written (listed c.finish-ready.result) (listed c.give.new.ready) follows
+    (no_run (kept c.finish-ready.new.tables) c.finish-ready.new.self c.finish-ready.ensures.run doing) doing.grouped c.give.ensures.given

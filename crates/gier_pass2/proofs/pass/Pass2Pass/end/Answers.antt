@@ -10,4 +10,4 @@ pub returns-clause-ok : goal.returns-clause-ok
 returns-clause-ok g c =
     let ws = c.as_slice.result.now in
     let few : length ws ≤ waiting_in c.args.self.now = omega (arith, ap (λ (l : List Symbol). length l) c.as_slice.ensures.listed, c.rest-ready.ensures.few) in
-    OnOk-map c.write_all.result _ _ (λ wrote. (ws, wrote, λ read written stands. relates_end c.args.self.now c.rest-ready.new.self (kept c.args.tables.now) (kept c.rest-ready.new.tables) read written ws stands c.rest-ready.ensures.bytes few (rw c.rest-ready.ensures.of_bytes at c.as_slice.ensures.writable) (rw c.as_slice.ensures.listed c.rest-ready.ensures.no_end))) c.write_all.ensures.written
+    OnOk-map c.write_all.result _ _ (λ wrote. (ws, wrote, λ read written stands. relates_end c.args.self.now c.rest-ready.new.self (kept c.args.tables.now) (kept c.rest-ready.new.tables) read written ws stands c.rest-ready.ensures.bytes few (rw c.rest-ready.ensures.of_bytes at c.as_slice.ensures.writable) (rw c.as_slice.ensures.listed c.rest-ready.ensures.no_end) (λ follows. rw c.as_slice.ensures.listed (c.rest-ready.ensures.exact read written follows)))) c.write_all.ensures.written
