@@ -1,10 +1,10 @@
 -- How the pass goes on standing when symbols are written, and how many they are.
 use Rattle.std.proofs.Common.{◌≡◌, ◌≤◌, ◌+◌, ◌*◌, ◌∙◌, ℕ, List, [], ◌∷◌, ◌++◌, arith, ap, length, length-append, refl, subst, Bool, true, false, get_or}
 use Rattle.std.specs.Prelude.{All, IsTrue, not, OnOk, Result, Ok, Err}
-use Rattle.std.proofs.lemmas.List.{get_or-set_same, get_or-set_other, length-set}
+use Rattle.std.proofs.lemmas.List.{get_or-set_same, get_or-set_other, get_or_append_left, length-set}
 use Rattle.std.proofs.lemmas.List.Elements.{All-append}
 use Rattle.gier_symbol.specs.declared.symbol.Symbol.{Symbol}
-use Rattle.gier_text.specs.Growth.{weight, is_numbered}
+use Rattle.gier_text.specs.Growth.{weight, is_numbered, IsLight}
 use Rattle.gier_text.specs.Kept.{Kept, with_at}
 use Rattle.gier_text.specs.Lists.{no_list, cut_to}
 use Rattle.gier_text.specs.Outbox.{waiting}
@@ -13,7 +13,10 @@ use Rattle.gier_text.specs.View.{View}
 use Rattle.gier_pass3.specs.declared.pass.Pass3.{Pass3}
 use Rattle.gier_pass3.specs.Items.{credit_in}
 use Rattle.gier_pass3.specs.Lists.{HasLists, stack_in, held_in, ready_in, ready_by}
-use Rattle.gier_pass3.specs.Standing.{IsFit, Holds, IsReady, Steps, Stands, load}
+use Rattle.gier_pass3.specs.Grammar.{HasItems}
+use Rattle.gier_pass3.specs.Found.{IsBare, faults_of, HasFound, Follows}
+use Rattle.gier_pass3.specs.Standing.{IsFit, Holds, IsReady, Steps, Stands, Relates, load, stops}
+use Rattle.gier_pass3.proofs.Following.{found_kept, found_more, found_whole}
 use Rattle.gier_pass3.proofs.Loads.{weight_append, length_weight, no_fit}
 
 pub less_more : (text : View) (m n : ℕ) → HasLess text m → m ≤ n → HasLess text n
@@ -77,21 +80,44 @@ load_after pass u h = omega (arith, ap credit_in (stack_after u h), ap (λ l. we
 same_fit : (old new : ℕ) (list : List Symbol) → new ≡ old → All (IsFit 3 old) list → All (IsFit 3 new) list
 same_fit old new list e h = rw e h
 
-pub stands_more : (pass new : Pass3) (t u : Kept) (read written : List Symbol) (s : Symbol) → Stands pass t read written → Steps pass new t u → Stands new (emptied u) (read ++ s ∷ []) (written ++ ready_by u)
-stands_more pass new t u read written s h steps = record {
+middle : (read rest : List Symbol) (s : Symbol) → get_or (read ++ (s ∷ []) ++ rest) (length read) s ≡ s
+middle [] rest s = refl
+middle (x ∷ read) rest s = middle read rest s
+
+-- the symbols before the last one, and the last one
+bare_before : (read : List Symbol) (s : Symbol) → All IsBare (read ++ s ∷ []) → All IsBare read
+bare_before read s all = λ k d lt. subst IsBare (get_or_append_left read (s ∷ []) d k lt) (all k d (omega (arith, lt, length-append read (s ∷ []))))
+
+last_of : (read : List Symbol) (s : Symbol) → get_or (read ++ s ∷ []) (length read) s ≡ s
+last_of [] s = refl
+last_of (x ∷ read) s = last_of read s
+
+bare_last : (read : List Symbol) (s : Symbol) → All IsBare (read ++ s ∷ []) → IsBare s
+bare_last read s all = subst IsBare (last_of read s) (all (length read) s (omega (arith, length-append read (s ∷ []))))
+
+-- what is known of the fault when a symbol was taken
+pub record Sees (pass new : Pass3) (t u : Kept) (s : Symbol) : Type 0 where
+  pub stays : pass.stopped ≡ true → (new.stopped ≡ true) × (u.faults ≡ t.faults)
+  pub told : pass.stopped ≡ false → u.faults ≡ faults_of new.stopped pass.read s.line
+  pub follows : pass.stopped ≡ false → IsBare s → HasItems t → Follows new.stopped s t u
+
+found_after : (pass new : Pass3) (t u : Kept) (read : List Symbol) (s : Symbol) → pass.read ≡ length read → HasLists u → Sees pass new t u s → (All IsBare read → HasFound pass.stopped t read) → All IsBare (read ++ s ∷ []) → HasFound new.stopped (emptied u) (read ++ s ∷ [])
+found_after pass new t u read s taken lists sees found bare =
+    let told = λ (going : pass.stopped ≡ false). sees.told going ∙ ap (λ n. faults_of new.stopped n s.line) taken in
+    found_kept new.stopped u (emptied u) (read ++ s ∷ []) (stack_after u lists) refl (found_more pass.stopped new.stopped t u read s (found (bare_before read s bare)) sees.stays told (λ going. sees.follows going (bare_last read s bare)))
+
+pub stands_more : (pass new : Pass3) (t u : Kept) (read written : List Symbol) (s : Symbol) → Stands pass t read written → Steps pass new t u → Sees pass new t u s → Stands new (emptied u) (read ++ s ∷ []) (written ++ ready_by u)
+stands_more pass new t u read written s h steps sees = record {
   ready = is_ready_after new u steps.ready;
   none_ready = none_after u steps.ready.holds.lists;
   taken = omega (arith, steps.read, h.taken, length-append read (s ∷ []));
   letters = All-append (IsFit 3 new.bytes) written (ready_by u) (same_fit pass.bytes new.bytes written steps.bytes h.letters) steps.ready.holds.ready;
   light = omega (arith, h.light, steps.load, load_after new u steps.ready.holds.lists, weight_append written (ready_by u), length-append read (s ∷ []));
+  found = found_after pass new t u read s h.taken steps.ready.holds.lists sees h.found;
 }
 
 pub few_more : (pass new : Pass3) (t u : Kept) (read written : List Symbol) → Stands pass t read written → Steps pass new t u → pass.read ≤ pass.bytes → length written + length (ready_by u) ≤ 8 * pass.bytes + 10
 few_more pass new t u read written h steps more = omega (arith, h.light, h.taken, steps.load, length_weight written, length_weight (ready_by u), more)
-
-middle : (read rest : List Symbol) (s : Symbol) → get_or (read ++ (s ∷ []) ++ rest) (length read) s ≡ s
-middle [] rest s = refl
-middle (x ∷ read) rest s = middle read rest s
 
 pub numbered_at : (bytes : ℕ) (read rest : List Symbol) (s : Symbol) → All (λ s. IsTrue (is_numbered 2 bytes s)) (read ++ (s ∷ []) ++ rest) → IsTrue (is_numbered 2 bytes s)
 numbered_at bytes read rest s all = subst (λ x. IsTrue (is_numbered 2 bytes x)) (middle read rest s) (all (length read) s (omega (arith, length-append (read ++ (s ∷ [])) rest, length-append read (s ∷ []))))
@@ -99,3 +125,23 @@ numbered_at bytes read rest s all = subst (λ x. IsTrue (is_numbered 2 bytes x))
 pub refuted : (r n : Bool) → r ≡ not n → r ≡ true → n ≡ true → ⊥
 refuted r true e is well = grind arith
 refuted r false e is well = grind arith
+
+at_most_one : (stopped : Bool) → stops stopped ≤ 1
+at_most_one true = omega arith
+at_most_one false = omega arith
+
+all_light : (pass : Pass3) (t : Kept) (read written : List Symbol) → Stands pass t read written → IsLight 3 pass.bytes (written ++ ready_by t)
+all_light pass t read written h =
+    let fit = All-append (IsFit 3 pass.bytes) written (ready_by t) h.letters h.ready.holds.ready in
+    record {
+      letters = λ k d lt. (fit k d lt).letter;
+      numbered = λ k d lt. (fit k d lt).numbered;
+      light = omega (arith, h.light, h.taken, h.ready.within, weight_append written (ready_by t));
+    }
+
+pub relates_whole : (pass : Pass3) (t : Kept) (read written : List Symbol) → Stands pass t read written → Relates pass (emptied t) read (written ++ ready_by t)
+relates_whole pass t read written h = record {
+  light = all_light pass t read written h;
+  few = omega (arith, h.ready.few, at_most_one pass.stopped);
+  found = λ bare. found_whole pass.stopped t read (h.found bare);
+}

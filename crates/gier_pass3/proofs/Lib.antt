@@ -1,5 +1,17 @@
 pub mod Credit
 pub mod StackWords
+pub mod ItemWords
+pub mod Rows
+pub mod Bare
+pub mod Following
 pub mod Loads
 pub mod Released
 pub mod GoingOn
+pub mod Runs
+pub mod Filling
+pub mod Completing
+pub mod Faults
+pub mod Joined
+pub mod Spelling
+pub mod SpelledRows
+pub mod Spelled

@@ -3,4 +3,7 @@ pub mod Rules
 pub mod Table
 pub mod Paying
 pub mod Lists
+pub mod Grammar
+pub mod Found
+pub mod Completion
 pub mod Standing

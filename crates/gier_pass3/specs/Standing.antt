@@ -1,14 +1,14 @@
 -- What the pass keeps while it takes symbols, what holds at its end, and which lists it is meant for.
-use Rattle.std.specs.Prelude.{Bool, true, false, ◌≡◌, ◌≤◌, ◌<◌, ◌+◌, ◌*◌, ◌^◌, ℕ, List, [], ◌∷◌, length, All, IsTrue, Option, None, Some}
+use Rattle.std.specs.Prelude.{Bool, true, false, ◌≡◌, ◌≤◌, ◌<◌, ◌+◌, ◌*◌, ◌^◌, ℕ, List, [], length, All, IsTrue, Option, None, Some}
 use Rattle.gier_symbol.specs.declared.symbol.Symbol.{Symbol}
 use Rattle.gier_symbol.specs.Symbols.{IsSymbol}
 use Rattle.gier_symbol.specs.Texts.{stands_in}
-use Rattle.gier_text.specs.declared.fault.Fault.{Fault}
-use Rattle.gier_text.specs.declared.fault.FaultKind.TheVariants.{Structure}
 use Rattle.gier_text.specs.Growth.{weight, is_numbered, IsLight}
 use Rattle.gier_text.specs.Kept.{Kept}
 use Rattle.gier_pass3.specs.declared.pass.Pass3.{Pass3}
+use Rattle.gier_tree.specs.Structure.{structure_fault}
 use Rattle.gier_pass3.specs.Lists.{HasLists, stack_in, held_in, ready_in, depth, credit, held_by, ready_by}
+use Rattle.gier_pass3.specs.Found.{IsBare, AreFound, HasFound}
 
 -- a symbol of this text of a program of so many bytes
 pub record IsFit (text bytes : ℕ) (s : Symbol) : Type 0 where
@@ -71,11 +71,6 @@ pub record Meets (pass new : Pass3) (t u : Kept) : Type 0 where
   pub limit : u.limit ≡ t.limit
   pub few : length u.faults ≤ stops new.stopped
 
--- the fault, if any: where it stands is told by how many symbols came before it, and by its line
-abbrev pub faults_of : Bool → ℕ → ℕ → List Fault
-faults_of true at_position at_line = record { position = at_position; line = at_line; kind = Structure } ∷ []
-faults_of false at_position at_line = []
-
 -- between symbols, where so many may be taken
 pub record IsReady (pass : Pass3) (t : Kept) : Type 0 where
   pub holds : Holds pass t
@@ -100,6 +95,7 @@ pub record Stands (pass : Pass3) (t : Kept) (read written : List Symbol) : Type 
   pub taken : pass.read ≡ length read
   pub letters : All (IsFit 3 pass.bytes) written
   pub light : weight 3 written + load pass t ≤ 8 * length read + 2
+  pub found : All IsBare read → HasFound pass.stopped t read
 
 -- letters of text 2 with small numbers of identifiers, at most one for each byte and one for the end
 pub record IsTextTwo (bytes : ℕ) (list : List Symbol) : Type 0 where
@@ -107,10 +103,12 @@ pub record IsTextTwo (bytes : ℕ) (list : List Symbol) : Type 0 where
   pub numbered : All (λ s. IsTrue (is_numbered 2 bytes s)) list
   pub few : length list ≤ bytes + 1
 
--- what is written is a text 3 that isn't too heavy, and at most one fault was found
+-- what is written is a text 3 that isn't too heavy; at most one fault was found, and where no symbol has a value that its tag
+-- has no use for, it is the fault of structure of what was read
 pub record Relates (pass : Pass3) (t : Kept) (read written : List Symbol) : Type 0 where
   pub light : IsLight 3 pass.bytes written
   pub few : length t.faults ≤ 1
+  pub found : All IsBare read → AreFound (structure_fault read) read t.faults
 
 -- the three lists are there, and empty
 pub record Opens (bytes : ℕ) (t u : Kept) : Type 0 where
@@ -119,6 +117,7 @@ pub record Opens (bytes : ℕ) (t u : Kept) : Type 0 where
   pub held_room : (held_in u).capacity ≡ 8 * bytes + 16
   pub ready_room : (ready_in u).capacity ≡ 8 * bytes + 16
   pub no_item : depth u ≡ 0
+  pub no_word : (stack_in u).words ≡ []
   pub none_held : held_by u ≡ []
   pub none_ready : ready_by u ≡ []
   pub limit : u.limit ≡ t.limit

@@ -1,5 +1,5 @@
 // What may be wanted next of a program. The stack of the pass holds these, and each is a word there.
-ghost use Rattle.std.specs.Prelude.{◌≡◌, IfSome};
+ghost use Rattle.std.specs.Prelude.{◌≡◌, ◌≢◌, IfSome, IfNone};
 
 use gier_tree::Construct;
 
@@ -161,6 +161,7 @@ pub enum Mark {
 
 impl Item {
     ghost use Rattle.gier_pass3.specs.Items.{number_of, mark_of, credit_of};
+    ghost use Rattle.gier_pass3.specs.declared.item.Item.{Item};
 
     /// The number of the item.
     pub fn number(self) -> u64
@@ -171,7 +172,8 @@ impl Item {
 
     /// The item with this number, if there is one.
     pub fn of(number: u64) -> Option<Item>
-        ensures { IfSome result (λ item. number_of item ≡ number) }
+        ensures some { IfSome result (λ item. number_of item ≡ number) }
+        ensures none { IfNone result ((item : Item) → number_of item ≢ number) }
     {
         match number {
             0 => Some(Item::OpenProgram),

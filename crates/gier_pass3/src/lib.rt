@@ -3,11 +3,13 @@
 
 mod held;
 mod item;
+mod laws;
 mod pass;
 mod rule;
 mod stack;
 mod table;
 
+pub use laws::law_completion;
 pub use pass::Pass3;
 
 #[cfg(test)]

@@ -6,9 +6,12 @@ ghost use Rattle.gier_symbol.specs.Texts.{stands_in};
 ghost use Rattle.gier_text.specs.Growth.{weight_of, is_numbered};
 ghost use Rattle.gier_text.specs.Kept.{kept, fresh};
 ghost use Rattle.gier_pass3.specs.Items.{credit_of, mark_of, mark_symbol, line_by, opened_by};
-ghost use Rattle.gier_pass3.specs.Rules.{cost_of, costs, price, tag_of};
-ghost use Rattle.gier_pass3.specs.Lists.{depth, ready_by};
-ghost use Rattle.gier_pass3.specs.Standing.{IsFit, Holds, Moves, Meets, load, IsReady, Steps, Stands, Relates, IsTextTwo, HasRoom, Opens, faults_of};
+ghost use Rattle.gier_tree.specs.Signs.{sign_of, sign_tag};
+ghost use Rattle.gier_pass3.specs.Rules.{cost_of, costs, left_after, price, tag_of, wants_of};
+ghost use Rattle.gier_pass3.specs.Lists.{depth, ready_by, stack_in};
+ghost use Rattle.gier_pass3.specs.Grammar.{AreAbove, HasItems, all_above, wanted_in};
+ghost use Rattle.gier_pass3.specs.Standing.{IsFit, Holds, Moves, Meets, load, IsReady, Steps, Stands, Relates, IsTextTwo, HasRoom, Opens};
+ghost use Rattle.gier_pass3.specs.Found.{Follows, IsBare, faults_of};
 
 use crate::held::{READY, first_line, hold, ready, release_all};
 use crate::item::{Item, Mark};
@@ -119,7 +122,12 @@ impl Pass3 {
         requires light { load self.old (kept tables.old) ≤ 8 * self.old.read + 2 }
         requires more { self.old.read ≤ self.old.bytes }
         requires symbol { IsFit 2 self.old.bytes s }
-        ensures { Steps self.old self.new (kept tables.old) (kept tables.new) }
+        ensures steps { Steps self.old self.new (kept tables.old) (kept tables.new) }
+        ensures stays { self.old.stopped ≡ true
+            → (self.new.stopped ≡ true) × ((kept tables.new).faults ≡ (kept tables.old).faults) }
+        ensures told { self.old.stopped ≡ false → (kept tables.new).faults ≡ faults_of self.new.stopped self.old.read s.line }
+        ensures follows { self.old.stopped ≡ false → IsBare s → HasItems (kept tables.old)
+            → Follows self.new.stopped s (kept tables.old) (kept tables.new) }
     {
         if !self.stopped {
             if let Some(kind) = Tag::of(s.tag) {
@@ -138,6 +146,8 @@ impl Pass3 {
         requires symbol { IsFit 2 self.old.bytes s }
         ensures meets { Meets self.old self.new (kept tables.old) (kept tables.new) }
         ensures faults { (kept tables.new).faults ≡ faults_of self.new.stopped self.old.read s.line }
+        ensures follows { sign_tag (sign_of s) ≡ kind → HasItems (kept tables.old)
+            → Follows self.new.stopped s (kept tables.old) (kept tables.new) }
     {
         let mut opened = false;
         while let Some(wanted) = pop(tables) {
@@ -180,7 +190,11 @@ impl Pass3 {
         requires room { HasRoom (price rule) 12 self.old (kept tables.old) }
         requires small { left < 2 ^ 32 }
         requires symbol { IsFit 2 self.old.bytes s }
-        ensures { Moves (price rule) 12 self.old self.new (kept tables.old) (kept tables.new) }
+        ensures moves { Moves (price rule) 12 self.old self.new (kept tables.old) (kept tables.new) }
+        ensures read { wanted_in (kept tables.new)
+            ≡ all_above (wants_of rule) (left_after rule left) (wanted_in (kept tables.old)) }
+        ensures items { HasItems (kept tables.old)
+            → AreAbove (wants_of rule) (left_after rule left) (wanted_in (kept tables.old)) → HasItems (kept tables.new) }
     {
         self.apply(rule.acts(), s, tables);
         push_wanted(tables, rule, left);
@@ -195,6 +209,7 @@ impl Pass3 {
         requires here { here < 2 ^ 24 }
         ensures moves { Moves (credit_of item) 0 self.old self.new (kept tables.old) (kept tables.new) }
         ensures opened { result ≡ opened_by (mark_of item) opened }
+        ensures stack { stack_in (kept tables.new) ≡ stack_in (kept tables.old) }
     {
         if let Some(mark) = item.mark() {
             return self.write_mark(mark, here, opened, tables);
@@ -214,6 +229,7 @@ impl Pass3 {
         requires here { here < 2 ^ 24 }
         ensures moves { Moves 1 0 self.old self.new (kept tables.old) (kept tables.new) }
         ensures opened { result ≡ opened_by (Some mark) opened }
+        ensures stack { stack_in (kept tables.new) ≡ stack_in (kept tables.old) }
     {
         let line = self.line_of(mark, here, opened);
         self.write(symbol_of(mark, line), tables);
@@ -241,7 +257,8 @@ impl Pass3 {
         requires holds { Holds self.old (kept tables.old) }
         requires room { HasRoom (costs acts.now) 0 self.old (kept tables.old) }
         requires symbol { IsFit 2 self.old.bytes s }
-        ensures { Moves (costs acts.now) 0 self.old self.new (kept tables.old) (kept tables.new) }
+        ensures moves { Moves (costs acts.now) 0 self.old self.new (kept tables.old) (kept tables.new) }
+        ensures stack { stack_in (kept tables.new) ≡ stack_in (kept tables.old) }
     {
         for act in acts {
             self.act(*act, s, tables);
@@ -252,7 +269,8 @@ impl Pass3 {
         requires holds { Holds self.old (kept tables.old) }
         requires room { HasRoom (cost_of act) 0 self.old (kept tables.old) }
         requires symbol { IsFit 2 self.old.bytes s }
-        ensures { Moves (cost_of act) 0 self.old self.new (kept tables.old) (kept tables.new) }
+        ensures moves { Moves (cost_of act) 0 self.old self.new (kept tables.old) (kept tables.new) }
+        ensures stack { stack_in (kept tables.new) ≡ stack_in (kept tables.old) }
     {
         match act {
             Act::Open(construct) => self.open_before(construct, s.line, tables),
@@ -272,7 +290,8 @@ impl Pass3 {
         requires holds { Holds self.old (kept tables.old) }
         requires room { HasRoom (weight_of 3 s.tag) 0 self.old (kept tables.old) }
         requires fit { IsFit 3 self.old.bytes s }
-        ensures { Moves (weight_of 3 s.tag) 0 self.old self.new (kept tables.old) (kept tables.new) }
+        ensures moves { Moves (weight_of 3 s.tag) 0 self.old self.new (kept tables.old) (kept tables.new) }
+        ensures stack { stack_in (kept tables.new) ≡ stack_in (kept tables.old) }
     {
         ready(tables, s);
     }
@@ -281,7 +300,8 @@ impl Pass3 {
         requires holds { Holds self.old (kept tables.old) }
         requires room { HasRoom (weight_of 3 s.tag) 0 self.old (kept tables.old) }
         requires fit { IsFit 3 self.old.bytes s }
-        ensures { Moves (weight_of 3 s.tag) 0 self.old self.new (kept tables.old) (kept tables.new) }
+        ensures moves { Moves (weight_of 3 s.tag) 0 self.old self.new (kept tables.old) (kept tables.new) }
+        ensures stack { stack_in (kept tables.new) ≡ stack_in (kept tables.old) }
     {
         hold(tables, s);
     }
@@ -290,7 +310,8 @@ impl Pass3 {
     fn release(&mut self, tables: &mut Tables)
         requires holds { Holds self.old (kept tables.old) }
         requires room { HasRoom 0 0 self.old (kept tables.old) }
-        ensures { Moves 0 0 self.old self.new (kept tables.old) (kept tables.new) }
+        ensures moves { Moves 0 0 self.old self.new (kept tables.old) (kept tables.new) }
+        ensures stack { stack_in (kept tables.new) ≡ stack_in (kept tables.old) }
     {
         release_all(tables, self.name);
         self.name = None;
@@ -301,7 +322,8 @@ impl Pass3 {
         requires holds { Holds self.old (kept tables.old) }
         requires room { HasRoom 1 0 self.old (kept tables.old) }
         requires line { line < 2 ^ 24 }
-        ensures { Moves 1 0 self.old self.new (kept tables.old) (kept tables.new) }
+        ensures moves { Moves 1 0 self.old self.new (kept tables.old) (kept tables.new) }
+        ensures stack { stack_in (kept tables.new) ≡ stack_in (kept tables.old) }
     {
         let first = first_line(tables, self.name, line);
         self.write(symbol_of(Mark::Open(construct), first), tables);
@@ -312,7 +334,8 @@ impl Pass3 {
         requires holds { Holds self.old (kept tables.old) }
         requires room { HasRoom 1 0 self.old (kept tables.old) }
         requires line { line < 2 ^ 24 }
-        ensures { Moves 1 0 self.old self.new (kept tables.old) (kept tables.new) }
+        ensures moves { Moves 1 0 self.old self.new (kept tables.old) (kept tables.new) }
+        ensures stack { stack_in (kept tables.new) ≡ stack_in (kept tables.old) }
     {
         self.write(
             Symbol::new(Tag::OwnNumber, u64::from(self.owns), line),
@@ -326,7 +349,8 @@ impl Pass3 {
         requires holds { Holds self.old (kept tables.old) }
         requires room { HasRoom 5 0 self.old (kept tables.old) }
         requires line { line < 2 ^ 24 }
-        ensures { Moves 5 0 self.old self.new (kept tables.old) (kept tables.new) }
+        ensures moves { Moves 5 0 self.old self.new (kept tables.old) (kept tables.new) }
+        ensures stack { stack_in (kept tables.new) ≡ stack_in (kept tables.old) }
     {
         self.write(
             Symbol::new(Tag::TextEnd, u64::from(self.owns), line),
@@ -339,7 +363,8 @@ impl Pass3 {
         requires holds { Holds self.old (kept tables.old) }
         requires room { HasRoom 1 0 self.old (kept tables.old) }
         requires symbol { IsFit 2 self.old.bytes colon }
-        ensures { Moves 1 0 self.old self.new (kept tables.old) (kept tables.new) }
+        ensures moves { Moves 1 0 self.old self.new (kept tables.old) (kept tables.new) }
+        ensures stack { stack_in (kept tables.new) ≡ stack_in (kept tables.old) }
     {
         if let Some(name) = self.name {
             self.name = None;

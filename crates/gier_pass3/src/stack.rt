@@ -1,8 +1,10 @@
 // The stack of what is wanted next, a list of the tables. The next item is last.
-ghost use Rattle.std.specs.Prelude.{◌≡◌, ◌≤◌, ◌<◌, ◌+◌, ◌*◌, ◌^◌, ◌%◌, length, IfSome};
+ghost use Rattle.std.specs.Prelude.{◌≡◌, ◌≤◌, ◌<◌, ◌+◌, ◌*◌, ◌/◌, ◌^◌, ◌%◌, length, IfSome, Some};
 ghost use Rattle.gier_text.specs.Kept.{kept};
 ghost use Rattle.gier_pass3.specs.Items.{credit_at, credit_of, credits};
 ghost use Rattle.gier_pass3.specs.Rules.{wants_of, left_after};
+ghost use Rattle.gier_pass3.specs.declared.item.Item.{Item};
+ghost use Rattle.gier_pass3.specs.Grammar.{HasItems, IsAbove, AreAbove, Pops, all_above, item_at, wanted_above, wanted_in, word_of};
 ghost use Rattle.gier_pass3.specs.Lists.{HasLists, KeepsLists, stack_in, held_in, ready_in, depth, credit};
 
 use crate::item::Item;
@@ -34,6 +36,7 @@ fn unfold(word: u64) -> Option<Wanted>
     requires { word < 2 ^ 40 }
     ensures credit { IfSome result (λ wanted. credit_of wanted.item ≡ credit_at (word % 256)) }
     ensures small { IfSome result (λ wanted. wanted.left < 2 ^ 32) }
+    ensures wanted { (item : Item) → item_at (word % 256) ≡ Some item → result ≡ Some (record { item = item; left = word / 256 }) }
 {
     match Item::of(word % LEFT) {
         Some(item) => Some(Wanted {
@@ -55,6 +58,7 @@ pub fn pop(tables: &mut Tables) -> Option<Wanted>
     ensures small { IfSome result (λ wanted. wanted.left < 2 ^ 32) }
     ensures depth { depth (kept tables.new) ≤ depth (kept tables.old) }
     ensures credit { credit (kept tables.new) ≤ credit (kept tables.old) }
+    ensures read { HasItems (kept tables.old) → Pops (wanted_in (kept tables.old)) result (kept tables.new) }
 {
     let depth = tables.len(STACK);
     if depth == 0 {
@@ -76,6 +80,9 @@ pub fn push_wanted(tables: &mut Tables, rule: Rule, left: u64)
     ensures ready { ready_in (kept tables.new) ≡ ready_in (kept tables.old) }
     ensures depth { depth (kept tables.new) ≡ depth (kept tables.old) + length (wants_of rule) }
     ensures credit { credit (kept tables.new) ≡ credit (kept tables.old) + credits (wants_of rule) }
+    ensures read { wanted_in (kept tables.new) ≡ all_above (wants_of rule) (left_after rule left) (wanted_in (kept tables.old)) }
+    ensures items { HasItems (kept tables.old)
+        → AreAbove (wants_of rule) (left_after rule left) (wanted_in (kept tables.old)) → HasItems (kept tables.new) }
 {
     let left = left_after(rule, left);
     let items = rule.wants();
@@ -104,6 +111,7 @@ fn fold(item: Item, left: u64) -> u64
     requires { left < 2 ^ 32 }
     ensures small { result < 2 ^ 40 }
     ensures credit { credit_at (result % 256) ≡ credit_of item }
+    ensures word { result ≡ word_of item left }
 {
     let beside = if item == Item::MorePairs { left } else { 0 };
     item.number() + beside * LEFT
@@ -119,6 +127,8 @@ pub fn push(tables: &mut Tables, item: Item, left: u64)
     ensures ready { ready_in (kept tables.new) ≡ ready_in (kept tables.old) }
     ensures depth { depth (kept tables.new) ≡ depth (kept tables.old) + 1 }
     ensures credit { credit (kept tables.new) ≡ credit (kept tables.old) + credit_of item }
+    ensures read { wanted_in (kept tables.new) ≡ wanted_above item left (wanted_in (kept tables.old)) }
+    ensures items { HasItems (kept tables.old) → IsAbove item (wanted_in (kept tables.old)) → HasItems (kept tables.new) }
 {
     let word = fold(item, left);
     tables.push(STACK, &[word]);

@@ -2,6 +2,7 @@ use Rattle.std.proofs.Common.{◌≡◌, ◌≤◌, ◌<◌, ◌+◌, ◌^◌, l
 use Rattle.gier_text.specs.Kept.{kept}
 use Rattle.gier_pass3.specs.Items.{credits}
 use Rattle.gier_pass3.specs.Rules.{wants_of}
+use Rattle.gier_pass3.specs.Grammar.{HasItems, AreAbove, all_above, wanted_in}
 use Rattle.gier_pass3.specs.Lists.{KeepsLists, held_in, ready_in, depth, credit}
 use Rattle.gier_pass3.proofs.stack.push_wanted.Given as goal
 
@@ -14,6 +15,8 @@ invariant-loop-at l = record {
   held : held_in (kept l.tables) ≡ held_in (kept l.fn.tables);
   ready : ready_in (kept l.tables) ≡ ready_in (kept l.fn.tables);
   deep : depth (kept l.tables) + l.at ≡ depth (kept l.fn.tables) + length l.items;
+  read : wanted_in (kept l.tables) ≡ all_above (drop l.at l.items) l.left (wanted_in (kept l.fn.tables));
+  entries : HasItems (kept l.fn.tables) → AreAbove (drop l.at l.items) l.left (wanted_in (kept l.fn.tables)) → HasItems (kept l.tables);
   paid : credit (kept l.tables) ≡ credit (kept l.fn.tables) + credits (drop l.at l.items);
 }
 

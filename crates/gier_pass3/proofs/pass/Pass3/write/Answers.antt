@@ -7,5 +7,5 @@ use Rattle.gier_pass3.proofs.pass.Pass3.write.Goals as goal
 pub ready-requires-clause-room : goal.ready-requires-clause-room
 ready-requires-clause-room c = omega (arith, c.requires.room.load, c.requires.holds.ready_room, length_weight (ready_by (kept c.args.tables.now)), some_weight c.args.s.tag)
 
-pub returns : goal.returns
-returns c = moves_ready c.args.self.now (kept c.args.tables.now) (kept c.ready.new.tables) c.args.s c.requires.holds c.ready.ensures.kept c.ready.ensures.stack c.ready.ensures.held c.ready.ensures.ready c.requires.fit
+pub returns-clause-moves : goal.returns-clause-moves
+returns-clause-moves c = moves_ready c.args.self.now (kept c.args.tables.now) (kept c.ready.new.tables) c.args.s c.requires.holds c.ready.ensures.kept c.ready.ensures.stack c.ready.ensures.held c.ready.ensures.ready c.requires.fit
