@@ -1,6 +1,6 @@
 -- What a stage does, put together from the calls of texts and of the pass.
 use Rattle.std.proofs.Common.{false, ◌≡◌, ◌≤◌, ◌<◌, ◌++◌, ◌∙◌, ◌-◌, ◌/◌, ℕ, List, [], Option, None, Some, Result, Ok, Err, true, length, refl, sym, ap, subst, arith, inl, inr, reverse, append_assoc, ◌+◌}
-use Rattle.std.specs.Prelude.{IsErrOf, OnOk, IsTrue, is_some}
+use Rattle.std.specs.Prelude.{IfOk, IsErrOf, OnOk, IsTrue, is_some}
 use Rattle.std.proofs.lemmas.List.{length-reverse, get_or-reverse}
 use Rattle.gier_drum.specs.declared.drum.Entry.{Entry}
 use Rattle.gier_symbol.specs.declared.symbol.Symbol.{Symbol}
@@ -17,6 +17,7 @@ use Rattle.gier_text.specs.View.{View, KeepsTracks, SameTracks, OrdersLeft}
 use Rattle.gier_text.proofs.Reading.{at_same, words_other}
 use Rattle.gier_pass7.specs.Standing.{IsShort as IsShortSeven}
 use Rattle.gier_pass8.specs.Standing.{IsShort}
+use Rattle.gier_pass9.specs.Making.{object_words, HoldsWords, Makes}
 use Rattle.gier_back.specs.Stages.{Grows, Changes}
 use Rattle.gier_back.specs.declared.stop.BackStop.{BackStop}
 use Rattle.gier_back.specs.declared.stop.BackStop.TheVariants.{Drum as BackDrum}
@@ -51,15 +52,6 @@ short_back text bytes list h = record {
       subst (λ s. IsTrue (stands_in text s.tag)) (sym (get_or-reverse list k d within)) (h.letters (length list - 1 - k) d (omega (arith, within)));
   short = omega (arith, h.short, length-reverse list);
 }
-
--- a text that isn't in the buffer stands on its tracks alone
-found_at : (tracks : List (List ℕ)) (first : ℕ) (buffer words : List ℕ) (i : ℕ) → symbol_at tracks first 0 buffer i ≡ symbol_at tracks first 0 words i
-found_at tracks first buffer words i = at_same tracks tracks first 0 0 buffer words i (words_other tracks first 0 buffer (i / 20) (λ m. absurd (omega arith)) ∙ sym (words_other tracks first 0 words (i / 20) (λ m. absurd (omega arith))))
-
-pub found_on : (tracks : Option (List (List ℕ))) (first loaded : ℕ) (buffer : List ℕ) (count : ℕ) → loaded ≡ 0 → told (symbols_of tracks first loaded buffer count) ≡ told (symbols_of tracks first 0 [] count)
-unfolding symbols_of
-found_on None first loaded buffer count none = refl
-found_on (Some tracks) first loaded buffer count none = rw none (ap (λ l. told (Some l)) (listed_same _ _ count (λ i below. found_at tracks first buffer [] i)))
 
 pub blank_on : (tracks : Option (List (List ℕ))) (first loaded : ℕ) (buffer : List ℕ) (count : ℕ) → count ≡ 0 → is_some tracks ≡ true → told (symbols_of tracks first loaded buffer count) ≡ Some []
 unfolding symbols_of
@@ -127,3 +119,12 @@ text_same from to count old new le h = ap (λ (v : View). v.held) (own_view old 
 
 pub some_same : {A : Type 0} (x y : A) → Some x ≡ Some y → x ≡ y
 some_same x y h = cc
+
+-- what pass 9 made of the list that was left
+pub made_of : (text : View) (limit first : ℕ) (tracks : Option (List (List ℕ))) (list : List Symbol) (r : Result ℕ PassStop)
+    → text.left ≡ Some list → IfOk r (λ n. Makes text limit first tracks n)
+    → IfOk r (λ n. (length (object_words limit list) ≡ n) × HoldsWords tracks first (object_words limit list))
+made_of text limit first tracks list (Ok n) told made =
+    let same : list ≡ made.list = rw told at made.left.0 in
+    rw same (made.count, made.holds)
+made_of text limit first tracks list (Err stop) told made = tt

@@ -1,18 +1,15 @@
 -- What the back hands on.
-use Rattle.std.specs.Prelude.{◌≡◌, ◌≤◌, ◌∷◌, [], ℕ, List, Option, Some, slice_index, reverse}
+use Rattle.std.specs.Prelude.{◌≡◌, ◌≤◌, ◌∷◌, [], ℕ, List, Option, Some, length, slice_index, reverse}
 use Rattle.gier_order.specs.declared.object.Object.{Object}
 use Rattle.gier_symbol.specs.declared.symbol.Symbol.{Symbol}
 use Rattle.gier_word.specs.declared.refusal.Odd.{Odd}
-use Rattle.gier_areas.specs.Areas.{object_first, words_of, capacity_of}
+use Rattle.gier_areas.specs.Areas.{longest, object_first, words_of, capacity_of}
 use Rattle.gier_text.specs.declared.fronted.Fronted.{Fronted}
-use Rattle.gier_text.specs.Coded.{symbols_of, told}
+use Rattle.gier_text.specs.Coded.{text_on}
 use Rattle.gier_pass7.specs.Standing.{IsShort as IsShortSeven}
 use Rattle.gier_pass8.specs.Standing.{IsShort}
+use Rattle.gier_pass9.specs.Making.{object_words, HoldsWords}
 use Rattle.gier_pass9.specs.Written.{IsWrong}
-
--- the symbols on the tracks from this one on, where the tracks are told and hold the code of so many
-abbrev pub text_on : Option (List (List ℕ)) → ℕ → ℕ → Option (List Symbol)
-text_on tracks first count = told (symbols_of tracks first 0 [] count)
 
 -- the tracks from this one on hold the code of a text 7 that is no longer than a text may be
 pub record HoldsSeven (tracks : Option (List (List ℕ))) (first bytes count : ℕ) : Type 0 where
@@ -35,6 +32,13 @@ pub record IsObject (fronted : Fronted) (object : Object) : Type 0 where
   pub some : 1 ≤ object.words
   pub few : object.words ≤ words_of fronted.bytes
   pub lengths : AreLengths fronted object.lengths
+
+-- the object's words are those that a text 8 makes, which was no longer than a text may be, and they stand on the object's tracks
+pub record IsMade (tracks : Option (List (List ℕ))) (bytes : ℕ) (object : Object) : Type 0 where
+  pub list : List Symbol
+  pub short : IsShort 8 bytes list
+  pub count : length (object_words longest (reverse list)) ≡ object.words
+  pub holds : HoldsWords tracks object.first_track (object_words longest (reverse list))
 
 -- a text 8 of letters, which was no longer than a text may be, had no word or too many
 pub record IsNoObject (bytes : ℕ) (odd : Odd) : Type 0 where

@@ -1,5 +1,6 @@
 // The way from text 6 to the object: three passes, one after the other.
-ghost use Rattle.std.specs.Prelude.{◌≡◌, ◌≤◌, ◌+◌, ◌*◌, [], List, ℕ, IfOk, OnOk, IsErrOf, Some, false, reverse, is_some, true, slice_index};
+ghost use Rattle.std.specs.Prelude.{◌≡◌, ◌≤◌, ◌+◌, ◌*◌, [], List, ℕ, IfOk, OnOk, IsErrOf, Some, false, reverse, is_some, true};
+ghost use Rattle.std.specs.Prelude.{length, slice_index};
 ghost use Rattle.gier_word.specs.Cause.{HasRisen};
 ghost use Rattle.gier_symbol.specs.declared.symbol.Symbol.{Symbol};
 ghost use Rattle.gier_areas.specs.Areas.{longest, all_tracks, first_of, capacity_of, words_of, object_first};
@@ -11,10 +12,12 @@ ghost use Rattle.gier_text.specs.Kept.{kept, fresh};
 ghost use Rattle.gier_text.specs.View.{IsEmpty, IsPlacedAs, Apart, SameTracks};
 ghost use Rattle.gier_pass7.specs.Standing.{IsShort as IsShortSeven};
 ghost use Rattle.gier_pass8.specs.Standing.{IsShort};
+ghost use Rattle.gier_pass9.specs.Making.{object_words, HoldsWords};
 ghost use Rattle.gier_pass9.specs.Object.{tracks_of};
 ghost use Rattle.gier_pass9.specs.Written.{IsWrong};
 ghost use Rattle.gier_back.specs.declared.stop.BackStop.TheVariants.{Drum as DrumStop};
-ghost use Rattle.gier_back.specs.Compiled.{text_on, AreLengths, HoldsSeven, IsObject, IsNoObject};
+ghost use Rattle.gier_text.specs.Coded.{text_on};
+ghost use Rattle.gier_back.specs.Compiled.{AreLengths, HoldsSeven, IsObject, IsMade, IsNoObject};
 ghost use Rattle.gier_back.specs.Stages.{GoesOn, Writes, Stays, Changes, HasRoom};
 ghost use Rattle.gier_back.specs.Stops.{OnlyDrum, DrumOr, SpoiltAs};
 
@@ -44,13 +47,17 @@ pub fn back<D: Drum>(
     requires bytes { fronted.bytes ≤ longest }
     requires symbols { fronted.symbols ≤ capacity_of fronted.bytes }
     ensures object { IfOk result (IsObject fronted) }
+    ensures made { (list : List Symbol) → text_on (D.tracks drum.old) (first_of 6) fronted.symbols ≡ Some list
+        → IsLight 6 fronted.bytes list → IfOk result (IsMade (D.tracks drum.new) fronted.bytes) }
     ensures in_room { IfOk result (λ object. object.first_track + tracks_of object.words ≤ D.room drum.new) }
     ensures limit { (kept tables.new).limit ≡ longest }
-    ensures text7 { (list : List Symbol) → text_on (D.tracks drum.old) (first_of 6) fronted.symbols ≡ Some list → IsLight 6 fronted.bytes list
+    ensures text7 { (list : List Symbol) → text_on (D.tracks drum.old) (first_of 6) fronted.symbols ≡ Some list
+        → IsLight 6 fronted.bytes list
         → IfOk result (λ object. HoldsSeven (D.tracks drum.new) (first_of 7) fronted.bytes (slice_index object.lengths 6)) }
     ensures changes { Changes D.room D.tracks D.journal D.faults (all_tracks longest) drum.old drum.new }
     ensures drum { IsErrOf result DrumStop → HasRisen (D.faults drum.old) (D.faults drum.new) }
-    ensures sound { (list : List Symbol) → text_on (D.tracks drum.old) (first_of 6) fronted.symbols ≡ Some list → IsLight 6 fronted.bytes list → SpoiltAs result (IsNoObject fronted.bytes) }
+    ensures sound { (list : List Symbol) → text_on (D.tracks drum.old) (first_of 6) fronted.symbols ≡ Some list
+        → IsLight 6 fronted.bytes list → SpoiltAs result (IsNoObject fronted.bytes) }
 {
     let bytes = fronted.bytes;
     let mut text6 = found_text(&fronted);
@@ -120,11 +127,13 @@ fn seven<T: Text>(
     requires output_placed { T.end_track output.old ≤ T.room store.old }
     requires apart { Apart (T.first_track input.old) (T.end_track input.old) (T.first_track output.old) (T.end_track output.old) }
     ensures goes_on { OnOk result (GoesOn (T.view output.old store.old) (T.view output.new store.new)) }
-    ensures writes { (list : List Symbol) → (T.view input.old store.old).held ≡ Some list → (T.view output.old store.old).held ≡ Some []
+    ensures writes { (list : List Symbol) → (T.view input.old store.old).held ≡ Some list
+        → (T.view output.old store.old).held ≡ Some []
         → OnOk result (Writes (IsShortSeven 7 bytes) (T.view output.new store.new)) }
     ensures limit { (kept tables.new).limit ≡ (kept tables.old).limit }
     ensures place { IsPlacedAs T.first_track T.end_track output.old output.new }
-    ensures changes { (end : ℕ) → T.end_track input.old ≤ end → T.end_track output.old ≤ end → Changes T.room T.tracks T.journal T.faults end store.old store.new }
+    ensures changes { (end : ℕ) → T.end_track input.old ≤ end → T.end_track output.old ≤ end
+        → Changes T.room T.tracks T.journal T.faults end store.old store.new }
     ensures drum { IsErrOf result PassDrum → HasRisen (T.faults store.old) (T.faults store.new) }
     ensures sound { T.grows ≡ false → (list : List Symbol) → (T.view input.old store.old).held ≡ Some list → IsLight 6 bytes list
         → HasRoom (T.view output.old store.old) (capacity_of bytes) → OnlyDrum result }
@@ -149,14 +158,17 @@ fn eight<T: Text>(
     requires output_placed { T.end_track output.old ≤ T.room store.old }
     requires apart { Apart (T.first_track input.old) (T.end_track input.old) (T.first_track output.old) (T.end_track output.old) }
     ensures goes_on { OnOk result (GoesOn (T.view output.old store.old) (T.view output.new store.new)) }
-    ensures writes { (list : List Symbol) → (T.view input.old store.old).held ≡ Some list → (T.view output.old store.old).held ≡ Some []
+    ensures writes { (list : List Symbol) → (T.view input.old store.old).held ≡ Some list
+        → (T.view output.old store.old).held ≡ Some []
         → OnOk result (Writes (IsShort 8 bytes) (T.view output.new store.new)) }
     ensures stays { OnOk result (Stays T.view T.first_track T.end_track input.old store.old Backward store.new) }
     ensures limit { (kept tables.new).limit ≡ (kept tables.old).limit }
     ensures place { IsPlacedAs T.first_track T.end_track output.old output.new }
-    ensures changes { (end : ℕ) → T.end_track input.old ≤ end → T.end_track output.old ≤ end → Changes T.room T.tracks T.journal T.faults end store.old store.new }
+    ensures changes { (end : ℕ) → T.end_track input.old ≤ end → T.end_track output.old ≤ end
+        → Changes T.room T.tracks T.journal T.faults end store.old store.new }
     ensures drum { IsErrOf result PassDrum → HasRisen (T.faults store.old) (T.faults store.new) }
-    ensures sound { T.grows ≡ false → (list : List Symbol) → (T.view input.old store.old).held ≡ Some list → IsShortSeven 7 bytes list
+    ensures sound { T.grows ≡ false → (list : List Symbol) → (T.view input.old store.old).held ≡ Some list
+        → IsShortSeven 7 bytes list
         → HasRoom (T.view output.old store.old) (capacity_of bytes) → OnlyDrum result }
 {
     prepare(tables);
@@ -176,11 +188,15 @@ fn nine<D: Drum>(
     requires writing { text.old.rewound ≡ false }
     requires placed { text.old.first + tracks_of_text text.old.capacity ≤ first_of 7 }
     ensures words { IfOk result (λ words. (1 ≤ words) × (words ≤ words_of bytes)) }
+    ensures made { (list : List Symbol) → (⟦<DrumText<D> as Text>⟧.view text.old drum.old).held ≡ Some list
+        → IfOk result (λ words. (length (object_words (kept tables.old).limit (reverse list)) ≡ words)
+        × HoldsWords (D.tracks drum.new) object_first (object_words (kept tables.old).limit (reverse list))) }
     ensures limit { (kept tables.new).limit ≡ (kept tables.old).limit }
     ensures changes { Changes D.room D.tracks D.journal D.faults (all_tracks longest) drum.old drum.new }
     ensures area { SameTracks (first_of 7) object_first (D.tracks drum.old) (D.tracks drum.new) }
     ensures drum { IsErrOf result PassDrum → HasRisen (D.faults drum.old) (D.faults drum.new) }
-    ensures sound { (list : List Symbol) → (⟦<DrumText<D> as Text>⟧.view text.old drum.old).held ≡ Some list → DrumOr result (IsWrong (words_of bytes) (reverse list)) }
+    ensures sound { (list : List Symbol) → (⟦<DrumText<D> as Text>⟧.view text.old drum.old).held ≡ Some list
+        → DrumOr result (IsWrong (words_of bytes) (reverse list)) }
 {
     match text.rewind(drum, Way::Backward) {
         Ok(()) => {}
@@ -195,7 +211,8 @@ fn found_text<D: Drum>(fronted: &Fronted) -> DrumText<D>
     requires symbols { fronted.now.symbols ≤ capacity_of fronted.now.bytes }
     ensures writing { result.rewound ≡ false }
     ensures place { (result.first ≡ first_of 6) × (result.capacity ≡ fronted.now.symbols) }
-    ensures held { (drum : D) → (⟦<DrumText<D> as Text>⟧.view result drum).held ≡ text_on (D.tracks drum) (first_of 6) fronted.now.symbols }
+    ensures held { (drum : D) → (⟦<DrumText<D> as Text>⟧.view result drum).held
+        ≡ text_on (D.tracks drum) (first_of 6) fronted.now.symbols }
 {
     DrumText::again(first_track(6), fronted.symbols)
 }

@@ -26,15 +26,18 @@ pub(crate) fn run_pass<P: Pass, T: Text>(
     requires output_placed { T.end_track output.old ≤ T.room store.old }
     requires apart { Apart (T.first_track input.old) (T.end_track input.old) (T.first_track output.old) (T.end_track output.old) }
     ensures goes_on { OnOk result (GoesOn (T.view output.old store.old) (T.view output.new store.new)) }
-    ensures writes { (list : List Symbol) → (T.view input.old store.old).held ≡ Some list → (T.view output.old store.old).held ≡ Some []
+    ensures writes { (list : List Symbol) → (T.view input.old store.old).held ≡ Some list
+        → (T.view output.old store.old).held ≡ Some []
         → OnOk result (Writes (P.relates pass.new tables.new (ordered way list)) (T.view output.new store.new)) }
     ensures stays { OnOk result (Stays T.view T.first_track T.end_track input.old store.old way store.new) }
     ensures most { P.most pass.new ≡ P.most pass.old }
     ensures limit { (kept tables.new).limit ≡ (kept tables.old).limit }
     ensures place { IsPlacedAs T.first_track T.end_track output.old output.new }
-    ensures changes { (end : ℕ) → T.end_track input.old ≤ end → T.end_track output.old ≤ end → Changes T.room T.tracks T.journal T.faults end store.old store.new }
+    ensures changes { (end : ℕ) → T.end_track input.old ≤ end → T.end_track output.old ≤ end
+        → Changes T.room T.tracks T.journal T.faults end store.old store.new }
     ensures drum { IsErrOf result DrumStop → HasRisen (T.faults store.old) (T.faults store.new) }
-    ensures sound { T.grows ≡ false → (list : List Symbol) → (T.view input.old store.old).held ≡ Some list → P.expects pass.old (ordered way list)
+    ensures sound { T.grows ≡ false → (list : List Symbol) → (T.view input.old store.old).held ≡ Some list
+        → P.expects pass.old (ordered way list)
         → HasRoom (T.view output.old store.old) (P.most pass.old) → OnlyDrum result }
 {
     match input.rewind(store, way) {

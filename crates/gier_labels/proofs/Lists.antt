@@ -1,11 +1,11 @@
 -- What a change of the list of labels keeps.
-use Rattle.std.proofs.Common.{◌≡◌, ◌≤◌, ◌+◌, ◌∙◌, ℕ, arith, ap, refl, set, length}
+use Rattle.std.proofs.Common.{◌≡◌, ◌≤◌, ◌∙◌, ℕ, arith, ap, refl, length}
 use Rattle.std.proofs.lemmas.List.{get_or-set_same, get_or-set_other, length-set}
 use Rattle.gier_text.specs.Kept.{Kept, with_at}
 use Rattle.gier_text.specs.Lists.{TableList, list_at, no_list}
 use Rattle.gier_labels.specs.Labels.{HasLabels, KeepsOthers}
 
-changed : (t u : Kept) (new : TableList) → 1 ≤ length t.lists → u ≡ with_at t 0 new → list_at u.lists 0 ≡ new
+pub changed : (t u : Kept) (new : TableList) → 1 ≤ length t.lists → u ≡ with_at t 0 new → list_at u.lists 0 ≡ new
 changed t u new some same = rw same (get_or-set_same t.lists 0 new no_list (omega (arith, some)))
 
 -- the list changes to one with the same room

@@ -1,7 +1,7 @@
 -- The words of labels in the first list of the tables.
-use Rattle.std.specs.Prelude.{◌≡◌, ◌≤◌, ◌<◌, ◌-◌, ◌^◌, ℕ, nat_lt, if◌then◌else◌, length}
+use Rattle.std.specs.Prelude.{◌≡◌, ◌≤◌, ◌-◌, ◌^◌, ℕ, nat_lt, if◌then◌else◌, length}
 use Rattle.gier_text.specs.Kept.{Kept}
-use Rattle.gier_text.specs.Lists.{TableList, list_at, word_at}
+use Rattle.gier_text.specs.Lists.{list_at, word_at}
 
 -- declared labels have the first word of an entry, and all others, which are numbered from 2^23 up, the second
 abbrev pub part_of : ℕ → ℕ

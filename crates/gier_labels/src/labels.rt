@@ -1,7 +1,7 @@
 // The list of words: labels, switches and procedures of the program are numbered from 0, all other labels from `FIRST_OTHER` up. The
 // words of both kinds stand side by side, so the list grows, and memory is touched, only as far as the greatest number whose word was
 // set.
-ghost use Rattle.std.specs.Prelude.{◌≡◌, ◌<◌, ◌≤◌, ◌+◌, ◌-◌, ◌*◌, ◌^◌, ℕ, [], length};
+ghost use Rattle.std.specs.Prelude.{◌≡◌, ◌≢◌, ◌<◌, ◌≤◌, ◌+◌, ◌-◌, ◌*◌, ◌^◌, ℕ, [], length};
 ghost use Rattle.gier_text.specs.Kept.{kept};
 ghost use Rattle.gier_text.specs.Lists.{list_at};
 ghost use Rattle.gier_labels.specs.Labels.{HasLabels, KeepsOthers, part_of, place_of, word_of};
@@ -45,6 +45,7 @@ pub fn open(tables: &mut Tables, room: u32)
     requires none { (kept tables.old).lists ≡ [] }
     requires fits { (kept tables.old).used + 2 * room ≤ 62 * (kept tables.old).limit + 4092 }
     ensures labels { HasLabels room (kept tables.new) }
+    ensures none { (number : ℕ) → word_of (kept tables.new) number ≡ 0 }
     ensures lists { length (kept tables.new).lists ≡ 1 }
     ensures used { (kept tables.new).used ≡ (kept tables.old).used + 2 * room }
     ensures limit { (kept tables.new).limit ≡ (kept tables.old).limit }
@@ -73,6 +74,7 @@ fn reach(tables: &mut Tables, place: u32, room: u32)
     requires place { place < room }
     ensures labels { HasLabels room (kept tables.new) }
     ensures others { KeepsOthers (kept tables.old) (kept tables.new) }
+    ensures words { (number : ℕ) → word_of (kept tables.new) number ≡ word_of (kept tables.old) number }
     ensures reached { place < (list_at (kept tables.new).lists 0).count }
 {
     for _turn in tables.len(LABELS)..place + 1 {
@@ -85,6 +87,9 @@ pub fn set_word(tables: &mut Tables, number: u64, word: u64, room: u32)
     requires labels { HasLabels room (kept tables.old) }
     requires small { word < 2 ^ 40 }
     ensures labels { HasLabels room (kept tables.new) }
+    ensures set { place_of number < room → word_of (kept tables.new) number ≡ word }
+    ensures unset { room ≤ place_of number → word_of (kept tables.new) number ≡ word_of (kept tables.old) number }
+    ensures rest { (label : ℕ) → label ≢ number → word_of (kept tables.new) label ≡ word_of (kept tables.old) label }
     ensures others { KeepsOthers (kept tables.old) (kept tables.new) }
 {
     let place = place_of(number);

@@ -1,1 +1,4 @@
+pub mod Pages
+pub mod Made
+pub mod Objects
 pub mod Written

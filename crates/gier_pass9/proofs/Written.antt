@@ -21,6 +21,7 @@ use Rattle.gier_text.proofs.Logs.{logs_none}
 use Rattle.gier_labels.specs.Labels.{HasLabels}
 use Rattle.gier_pass9.specs.declared.object.Object.{Object}
 use Rattle.gier_pass9.specs.Object.{tracks_of, full_track, last_track}
+use Rattle.gier_pass9.specs.Making.{Marks, no_marks, marks_of, words_from, HasWords}
 use Rattle.gier_pass9.specs.Written.{words_for, words_in, word_log, AreLetters, IsObjectText, IsWrong, IsWrongSymbol, Fills}
 
 pub record Filling {T S : Type 0} (view : T → S → View) (first end : T → ℕ) (text_room room : S → ℕ) (tracks : S → Option (List (List ℕ))) (journal : S → Option (List Entry)) (faults : S → ℕ) (text_old : T) (store_old : S) (text : T) (store : S) (object_first most : ℕ) (object : Object) (labels : ℕ) (t_old t : Kept) (number : ℕ) : Type 0 where
@@ -42,6 +43,11 @@ pub record Filling {T S : Type 0} (view : T → S → View) (first end : T → �
   pub labelled : HasLabels labels t
   pub same_limit : t.limit ≡ t_old.limit
   pub same_faults : t.faults ≡ t_old.faults
+  pub marks : Marks
+  pub words : List ℕ
+  pub known : (label : ℕ) → marks_of t label ≡ marks label
+  pub made : (rest : List Symbol) → words_from labels no_marks 0 (read ++ rest) ≡ words ++ words_from labels marks object.count rest
+  pub has : HasWords object (tracks store) words
   pub filled : Fills (view text_old store_old) (view text store) object_first (object.count / 40) (journal store_old) (journal store)
 
 logs_more : (before mid after : Option (List Entry)) (es fs : List Entry) → LogsAll before es mid → LogsAll mid fs after → LogsAll before (es ++ fs) after

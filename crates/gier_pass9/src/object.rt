@@ -38,11 +38,15 @@ fn zeros() -> [u64; 40]
 }
 
 impl Object {
+    ghost use Rattle.std.specs.Prelude.{◌++◌, ◌∷◌, List, [], Option};
+    ghost use Rattle.gier_pass9.specs.Making.{HasWords, HoldsWords};
+
     /// An object without words, from this track on.
     pub(crate) fn at(first: u32, most: u32) -> Object
         requires { first + tracks_of most ≤ 2 ^ 32 }
         ensures place { (result.first ≡ first) × (result.most ≡ most) }
         ensures empty { result.count ≡ 0 }
+        ensures made { (tracks : Option (List (List ℕ))) → HasWords result tracks [] }
     {
         Object {
             first,
@@ -74,9 +78,14 @@ impl Object {
         ensures place { (self.new.first ≡ self.old.first) × (self.new.most ≡ self.old.most) }
         ensures count { OnOk result (self.new.count ≡ self.old.count + 1) }
         ensures refused { OnErr result (self.new.count ≡ self.old.count) }
-        ensures tracks { KeepsTracks self.old.first (self.old.first + tracks_of self.old.most) (D.tracks drum.old) (D.tracks drum.new) }
+        ensures made { OnOk result
+            ((words : List ℕ) → HasWords self.old (D.tracks drum.old) words
+            → HasWords self.new (D.tracks drum.new) (words ++ word ∷ [])) }
+        ensures tracks { KeepsTracks self.old.first (self.old.first + tracks_of self.old.most) (D.tracks drum.old)
+            (D.tracks drum.new) }
         ensures room { D.room drum.new ≡ D.room drum.old }
-        ensures logged { OnOk result (LogsAll (D.journal drum.old) (full_track self.old.first self.old.count) (D.journal drum.new)) }
+        ensures logged { OnOk result
+            (LogsAll (D.journal drum.old) (full_track self.old.first self.old.count) (D.journal drum.new)) }
         ensures unlogged { OnErr result (D.journal drum.new ≡ D.journal drum.old) }
         ensures cause { HasCause (D.faults drum.old) (D.faults drum.new) result }
     {
@@ -100,9 +109,13 @@ impl Object {
     /// Writes the last track, filled up with 0, where it isn't full.
     pub(crate) fn close<D: Drum>(&self, drum: &mut D) -> Result<(), Failed>
         requires in_room { self.now.first + tracks_of self.now.most ≤ D.room drum.old }
-        ensures tracks { KeepsTracks self.now.first (self.now.first + tracks_of self.now.most) (D.tracks drum.old) (D.tracks drum.new) }
+        ensures made { OnOk result
+            ((words : List ℕ) → HasWords self.now (D.tracks drum.old) words → HoldsWords (D.tracks drum.new) self.now.first words) }
+        ensures tracks { KeepsTracks self.now.first (self.now.first + tracks_of self.now.most) (D.tracks drum.old)
+            (D.tracks drum.new) }
         ensures room { D.room drum.new ≡ D.room drum.old }
-        ensures logged { OnOk result (LogsAll (D.journal drum.old) (last_track self.now.first self.now.count) (D.journal drum.new)) }
+        ensures logged { OnOk result
+            (LogsAll (D.journal drum.old) (last_track self.now.first self.now.count) (D.journal drum.new)) }
         ensures unlogged { OnErr result (D.journal drum.new ≡ D.journal drum.old) }
         ensures cause { HasCause (D.faults drum.old) (D.faults drum.new) result }
     {

@@ -4,6 +4,7 @@ ghost use Rattle.gier_symbol.specs.Symbols.{IsSymbol};
 ghost use Rattle.gier_text.specs.Kept.{kept};
 ghost use Rattle.gier_labels.specs.Labels.{HasLabels};
 ghost use Rattle.gier_pass9.specs.Words.{room_of, address_in, address_of, with_address, order_word, word_of, KeepsLabels};
+ghost use Rattle.gier_pass9.specs.Making.{marked, marks_of, word_by};
 
 use gier_symbol::{ORDER_BASE, Symbol, Tag};
 use gier_text::Tables;
@@ -30,7 +31,8 @@ pub(crate) fn room(limit: u32) -> u32
 /// The mark of a label stands before the word with this number.
 pub(crate) fn set_mark(tables: &mut Tables, label: u64, place: u32, room: u32)
     requires labels { HasLabels room (kept tables.old) }
-    ensures { KeepsLabels room (kept tables.old) (kept tables.new) }
+    ensures kept { KeepsLabels room (kept tables.old) (kept tables.new) }
+    ensures marks { (other : ℕ) → marks_of (kept tables.new) other ≡ marked room label place (marks_of (kept tables.old)) other }
 {
     gier_labels::set_word(tables, label, u64::from(place) + MARKED, room);
 }
@@ -75,6 +77,7 @@ pub(crate) fn word_for(tables: &Tables, s: Symbol) -> u64
     requires labels { (room : ℕ) × HasLabels room (kept tables.now) }
     requires symbol { IsSymbol s }
     ensures value { result ≡ word_of (kept tables.now) s }
+    ensures made { result ≡ word_by (marks_of (kept tables.now)) s }
     ensures small { result < 2 ^ 40 }
 {
     if s.tag == Tag::LabelOrder.number() {

@@ -1,5 +1,6 @@
 // The pass: text 8 is read to its end, and each of its words goes to the object.
-ghost use Rattle.std.specs.Prelude.{◌≡◌, ◌≤◌, ◌<◌, ◌+◌, ◌*◌, ◌^◌, ◌⊎◌, ℕ, List, IfOk, IfErr, OnOk, OnErr, IsErrOf, IsTrue, Some, false};
+ghost use Rattle.std.specs.Prelude.{◌≡◌, ◌≤◌, ◌<◌, ◌+◌, ◌*◌, ◌^◌, ◌⊎◌, ◌++◌, ◌∷◌, [], ℕ, List, IfOk, IfErr, OnOk, OnErr, IsErrOf};
+ghost use Rattle.std.specs.Prelude.{IsTrue, Some, false};
 ghost use Rattle.gier_word.specs.Cause.{HasCause, HasRisen};
 ghost use Rattle.gier_symbol.specs.declared.symbol.Symbol.{Symbol};
 ghost use Rattle.gier_symbol.specs.Symbols.{IsSymbol};
@@ -13,6 +14,7 @@ ghost use Rattle.gier_text.specs.Passes.{SpoiltIf};
 ghost use Rattle.gier_text.specs.View.{Apart, IsUnread, IsLeft, IsPlacedAs, KeepsTracks};
 ghost use Rattle.gier_labels.specs.Labels.{HasLabels};
 ghost use Rattle.gier_pass9.specs.Words.{KeepsLabels, room_of};
+ghost use Rattle.gier_pass9.specs.Making.{Makes, HasWords, HoldsWords, marks_of, marks_behind, words_with};
 ghost use Rattle.gier_pass9.specs.Object.{tracks_of, full_track, last_track};
 ghost use Rattle.gier_pass9.specs.Written.{words_for, words_in, AreLetters, IsObjectText, IsWrong, Fills, AreThose, word_log};
 
@@ -46,9 +48,16 @@ impl Pass9 {
         requires placed { T.end_track text.old ≤ T.room drum.old }
         requires same { AreThose T.room D.room T.tracks D.tracks T.journal D.journal T.faults D.faults }
         ensures words { IfOk result (λ n. (1 ≤ n) × (n ≤ most)) }
-        ensures read { IfOk result (λ n. (read : List Symbol) × IsLeft (T.view text.old drum.old) read × AreLetters read × (words_in read ≡ n)) }
-        ensures wrote { IfOk result (λ n. Fills (T.view text.old drum.old) (T.view text.new drum.new) first_track (tracks_of n) (D.journal drum.old) (D.journal drum.new)) }
-        ensures logged { (tracks : ℕ) × (tracks ≤ tracks_of most) × Fills (T.view text.old drum.old) (T.view text.new drum.new) first_track tracks (D.journal drum.old) (D.journal drum.new) }
+        ensures read { IfOk result
+            (λ n. (read : List Symbol) × IsLeft (T.view text.old drum.old) read × AreLetters read × (words_in read ≡ n)) }
+        ensures made { IfOk result
+            (λ n. Makes (T.view text.old drum.old) (kept tables.old).limit first_track (D.tracks drum.new) n) }
+        ensures wrote { IfOk result
+            (λ n. Fills (T.view text.old drum.old) (T.view text.new drum.new) first_track (tracks_of n) (D.journal drum.old)
+            (D.journal drum.new)) }
+        ensures logged { (tracks : ℕ) × (tracks ≤ tracks_of most)
+            × Fills (T.view text.old drum.old) (T.view text.new drum.new) first_track tracks (D.journal drum.old)
+            (D.journal drum.new) }
         ensures place { IsPlacedAs T.first_track T.end_track text.old text.new }
         ensures tracks { KeepsTracks first_track (first_track + tracks_of most) (D.tracks drum.old) (D.tracks drum.new) }
         ensures room { D.room drum.new ≡ D.room drum.old }
@@ -57,7 +66,8 @@ impl Pass9 {
         ensures memory { IsErrOf result Memory → IsTrue T.grows }
         ensures full { IsErrOf result Full → ⊥ }
         ensures spoilt { (all : List Symbol) → (T.view text.old drum.old).left ≡ Some all → SpoiltAs result (IsWrong most all) }
-        ensures sound { (all : List Symbol) → (T.view text.old drum.old).left ≡ Some all → IsObjectText most all → SpoiltIf result ⊥ }
+        ensures sound { (all : List Symbol) → (T.view text.old drum.old).left ≡ Some all → IsObjectText most all
+            → SpoiltIf result ⊥ }
         ensures limit { (kept tables.new).limit ≡ (kept tables.old).limit }
         ensures faults { (kept tables.new).faults ≡ (kept tables.old).faults }
     {
@@ -95,17 +105,25 @@ fn take<T: Text<Store = D>, D: Drum>(
     requires symbol { IsSymbol s }
     requires labels { HasLabels labels (kept tables.old) }
     requires in_room { object.old.first + tracks_of object.old.most ≤ D.room drum.old }
-    requires apart { Apart (T.first_track text.now) (T.end_track text.now) object.old.first (object.old.first + tracks_of object.old.most) }
+    requires apart { Apart (T.first_track text.now) (T.end_track text.now) object.old.first
+        (object.old.first + tracks_of object.old.most) }
     requires same { AreThose T.room D.room T.tracks D.tracks T.journal D.journal T.faults D.faults }
     ensures labels { KeepsLabels labels (kept tables.old) (kept tables.new) }
     ensures letter { OnOk result (IsTrue (stands_in 8 s.tag)) }
     ensures place { (object.new.first ≡ object.old.first) × (object.new.most ≡ object.old.most) }
     ensures count { OnOk result (object.new.count ≡ object.old.count + words_for s) }
+    ensures marks { OnOk result
+        ((label : ℕ) → marks_of (kept tables.new) label ≡ marks_behind labels object.old.count s
+        (marks_of (kept tables.old)) label) }
+    ensures made { OnOk result ((words : List ℕ) → HasWords object.old (D.tracks drum.old) words
+        → HasWords object.new (D.tracks drum.new) (words ++ words_with (marks_of (kept tables.old)) s)) }
     ensures refused { OnErr result (object.new.count ≡ object.old.count) }
     ensures text { T.view text.now drum.new ≡ T.view text.now drum.old }
-    ensures tracks { KeepsTracks object.old.first (object.old.first + tracks_of object.old.most) (D.tracks drum.old) (D.tracks drum.new) }
+    ensures tracks { KeepsTracks object.old.first (object.old.first + tracks_of object.old.most) (D.tracks drum.old)
+        (D.tracks drum.new) }
     ensures room { D.room drum.new ≡ D.room drum.old }
-    ensures logged { OnOk result (LogsAll (D.journal drum.old) (word_log s object.old.first object.old.count) (D.journal drum.new)) }
+    ensures logged { OnOk result
+        (LogsAll (D.journal drum.old) (word_log s object.old.first object.old.count) (D.journal drum.new)) }
     ensures unlogged { OnErr result (D.journal drum.new ≡ D.journal drum.old) }
     ensures later { D.faults drum.old ≤ D.faults drum.new }
     ensures drum { IsErrOf result DrumStop → HasRisen (D.faults drum.old) (D.faults drum.new) }
@@ -139,15 +157,21 @@ fn put<T: Text<Store = D>, D: Drum>(
     requires room { object.old.count < object.old.most }
     requires word { word < 2 ^ 40 }
     requires in_room { object.old.first + tracks_of object.old.most ≤ D.room drum.old }
-    requires apart { Apart (T.first_track text.now) (T.end_track text.now) object.old.first (object.old.first + tracks_of object.old.most) }
+    requires apart { Apart (T.first_track text.now) (T.end_track text.now) object.old.first
+        (object.old.first + tracks_of object.old.most) }
     requires same { AreThose T.room D.room T.tracks D.tracks T.journal D.journal T.faults D.faults }
     ensures place { (object.new.first ≡ object.old.first) × (object.new.most ≡ object.old.most) }
     ensures count { OnOk result (object.new.count ≡ object.old.count + 1) }
     ensures refused { OnErr result (object.new.count ≡ object.old.count) }
+    ensures made { OnOk result
+        ((words : List ℕ) → HasWords object.old (D.tracks drum.old) words
+        → HasWords object.new (D.tracks drum.new) (words ++ word ∷ [])) }
     ensures text { T.view text.now drum.new ≡ T.view text.now drum.old }
-    ensures tracks { KeepsTracks object.old.first (object.old.first + tracks_of object.old.most) (D.tracks drum.old) (D.tracks drum.new) }
+    ensures tracks { KeepsTracks object.old.first (object.old.first + tracks_of object.old.most) (D.tracks drum.old)
+        (D.tracks drum.new) }
     ensures room { D.room drum.new ≡ D.room drum.old }
-    ensures logged { OnOk result (LogsAll (D.journal drum.old) (full_track object.old.first object.old.count) (D.journal drum.new)) }
+    ensures logged { OnOk result
+        (LogsAll (D.journal drum.old) (full_track object.old.first object.old.count) (D.journal drum.new)) }
     ensures unlogged { OnErr result (D.journal drum.new ≡ D.journal drum.old) }
     ensures cause { HasCause (D.faults drum.old) (D.faults drum.new) result }
     ensures only { IfErr result (λ stop. stop ≡ PassStop.Drum) }
@@ -165,13 +189,18 @@ fn finish<T: Text<Store = D>, D: Drum>(
     object: &Object,
 ) -> Result<u32, PassStop>
     requires in_room { object.now.first + tracks_of object.now.most ≤ D.room drum.old }
-    requires apart { Apart (T.first_track text.now) (T.end_track text.now) object.now.first (object.now.first + tracks_of object.now.most) }
+    requires apart { Apart (T.first_track text.now) (T.end_track text.now) object.now.first
+        (object.now.first + tracks_of object.now.most) }
     requires same { AreThose T.room D.room T.tracks D.tracks T.journal D.journal T.faults D.faults }
     ensures words { IfOk result (λ n. (n ≡ object.now.count) × (1 ≤ n)) }
+    ensures made { OnOk result
+        ((words : List ℕ) → HasWords object.now (D.tracks drum.old) words → HoldsWords (D.tracks drum.new) object.now.first words) }
     ensures text { T.view text.now drum.new ≡ T.view text.now drum.old }
-    ensures tracks { KeepsTracks object.now.first (object.now.first + tracks_of object.now.most) (D.tracks drum.old) (D.tracks drum.new) }
+    ensures tracks { KeepsTracks object.now.first (object.now.first + tracks_of object.now.most) (D.tracks drum.old)
+        (D.tracks drum.new) }
     ensures room { D.room drum.new ≡ D.room drum.old }
-    ensures logged { OnOk result (LogsAll (D.journal drum.old) (last_track object.now.first object.now.count) (D.journal drum.new)) }
+    ensures logged { OnOk result
+        (LogsAll (D.journal drum.old) (last_track object.now.first object.now.count) (D.journal drum.new)) }
     ensures unlogged { OnErr result (D.journal drum.new ≡ D.journal drum.old) }
     ensures later { D.faults drum.old ≤ D.faults drum.new }
     ensures drum { IsErrOf result DrumStop → HasRisen (D.faults drum.old) (D.faults drum.new) }

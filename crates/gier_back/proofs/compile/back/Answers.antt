@@ -1,7 +1,8 @@
 use Rattle.std.proofs.Common.{◌≡◌, ◌∙◌, ◌+◌, ◌*◌, ap, sym, arith, refl, Err}
 use Rattle.gier_text.proofs.Driven.{risen_from}
 use Rattle.gier_back.specs.Compiled.{IsNoObject}
-use Rattle.gier_back.proofs.Stages.{changes_more, told_on, found_on, text_same, some_same, err_drum, only_drum, drum_or_as}
+use Rattle.gier_text.specs.Own.{found_on}
+use Rattle.gier_back.proofs.Stages.{changes_more, told_on, text_same, some_same, err_drum, only_drum, drum_or_as}
 use Rattle.gier_back.proofs.compile.back.Goals as goal
 
 pub returns-in-Err-clause-changes : goal.returns-in-Err-clause-changes
@@ -97,3 +98,18 @@ returns-in-Ok-nine-clause-text7 g c = λ list told light.
       held = rw c.lengths.ensures.seven (text_same 629149 1258298 c.len-symbols7.result (tracks c.eight.new.store) (tracks c.nine.new.drum) (omega (arith, c.len-symbols7.ensures, c.seven.new.output.limited, few, c.requires.bytes)) c.nine.ensures.area ∙ here);
       short = wrote.relates;
     }
+
+pub returns-in-Ok-nine-clause-made : goal.returns-in-Ok-nine-clause-made
+returns-in-Ok-nine-clause-made g c = λ list told light.
+    let place6 = c.found_text-text6.ensures.place in
+    let place7 = c.blank_text-text7.ensures.place in
+    let first = c.seven.ensures.changes 1468015 (omega (arith, place6.0, place6.1, c.requires.symbols, c.requires.bytes))
+    (omega (arith, place7.0, place7.1, c.requires.bytes)) in
+    let some = told_on (g.D.Drum.tracks c.args.drum.now) 0 c.args.fronted.symbols list told in
+    let wrote7 = c.in-Ok.ensures.writes list (c.found_text-text6.ensures.held c.args.drum.now ∙ told)
+    (c.blank_text-text7.ensures.told c.args.drum.now some) in
+    let wrote8 = c.in-Ok-eight.ensures.writes wrote7.written wrote7.held
+    (c.blank_text-text8.ensures.told c.seven.new.store (first.same_tracks.told ∙ some)) in
+    let limit = c.eight.ensures.limit ∙ c.seven.ensures.limit ∙ c.requires.limit in
+    let made = rw limit at (c.in-Ok-nine.ensures.made wrote8.written wrote8.held) in
+    record { list = wrote8.written; short = wrote8.relates; count = made.0; holds = rw c.object_track.ensures made.1 }

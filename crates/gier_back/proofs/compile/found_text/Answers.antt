@@ -1,4 +1,4 @@
-use Rattle.gier_back.proofs.Stages.{found_on}
+use Rattle.gier_text.specs.Own.{found_on}
 use Rattle.gier_back.proofs.compile.found_text.Goals as goal
 
 pub returns-clause-held : goal.returns-clause-held

@@ -1,7 +1,8 @@
 use Rattle.std.proofs.Common.{◌∙◌, arith, reverse}
 use Rattle.gier_areas.specs.Areas.{words_of}
 use Rattle.gier_pass9.specs.Written.{IsWrong}
-use Rattle.gier_back.proofs.Stages.{grows_more, tracks_wider, tracks_both, drum_or, left_back, same_behind, same_before, same_both}
+use Rattle.gier_text.specs.Kept.{kept}
+use Rattle.gier_back.proofs.Stages.{grows_more, tracks_wider, tracks_both, drum_or, left_back, made_of, same_behind, same_before, same_both}
 use Rattle.gier_back.proofs.compile.nine.Goals as goal
 
 pub returns-clause-changes : goal.returns-clause-changes
@@ -23,6 +24,11 @@ pub returns-clause-sound : goal.returns-clause-sound
 returns-clause-sound g c = λ list held.
     let spoilt = c.write.ensures.spoilt (reverse list) (left_back _ list _ held c.in-Ok.ensures.rewound.left) in
     drum_or c.write.result (IsWrong (words_of c.args.bytes) (reverse list)) (λ h. let wrong = c.write.ensures.memory h in absurd (cc)) c.write.ensures.full (rw c.object_words.ensures at spoilt)
+
+pub returns-clause-made : goal.returns-clause-made
+returns-clause-made g c = λ list held.
+    let left = left_back _ list _ held c.in-Ok.ensures.rewound.left in
+    made_of _ (kept c.args.tables.now).limit 1258298 (g.D.Drum.tracks c.write.new.drum) (reverse list) c.write.result left (rw c.object_track.ensures at c.write.ensures.made)
 
 pub returns-clause-area : goal.returns-clause-area
 returns-clause-area g c =

@@ -1,12 +1,17 @@
-use Rattle.std.proofs.Common.{◌≡◌, ◌++◌, ◌∷◌, [], ◌+◌, ◌/◌, ap, ◌∙◌, sym, refl, arith, inl}
+use Rattle.std.proofs.Common.{◌≡◌, ◌++◌, ◌∷◌, [], ◌+◌, ◌/◌, ap, ◌∙◌, ℕ, List, sym, refl, subst, arith, inl}
 use Rattle.std.proofs.lemmas.List.Elements.{All-append}
 use Rattle.std.specs.Prelude.{IsTrue}
 use Rattle.gier_symbol.specs.declared.symbol.Symbol.{Symbol}
 use Rattle.gier_symbol.specs.Texts.{stands_in}
+use Rattle.gier_text.specs.Kept.{kept}
 use Rattle.gier_text.specs.View.{View}
+use Rattle.gier_text.proofs.Driven.{OnOk-map, reads_end}
 use Rattle.gier_text.proofs.Driven.{reads_none, reads_more, apart_as, tracks_more, tracks_none, next_told, place_more}
 use Rattle.gier_pass9.specs.Object.{tracks_of}
+use Rattle.gier_pass9.specs.Making.{no_marks, mark_in, marks_of, marks_behind, words_with, HasWords}
+use Rattle.gier_pass9.specs.Words.{room_of}
 use Rattle.gier_pass9.specs.Written.{IsWrong, word_log, words_for}
+use Rattle.gier_pass9.proofs.Made.{words_same, marks_same, made_more, makes_end, read_end}
 use Rattle.gier_pass9.proofs.Written.{fills_none, fills_more, fills_read, fills_end, fills_whole, wrote_word, words_more, wrong_next, right_text, stop_as, stop_never, one_letter}
 use Rattle.gier_pass9.proofs.writer.Pass9.write.Goals as goal
 
@@ -33,6 +38,11 @@ loop-s-init g c =
       labelled = c.open.ensures.labels;
       same_limit = refl;
       same_faults = refl;
+      marks = no_marks;
+      words = [];
+      known = λ label. ap mark_in (c.open.ensures.none label);
+      made = λ rest. rw c.at-object.ensures.empty refl;
+      has = c.at-object.ensures.made (g.D.Drum.tracks c.args.drum.now);
       filled = rw c.at-object.ensures.empty (fills_none (view c.args.text.now c.args.drum.now) c.args.first_track (g.D.Drum.journal c.args.drum.now));
     }
 
@@ -70,6 +80,14 @@ loop-s-preserved g c =
       labelled = c.take.ensures.labels.labels;
       same_limit = c.take.ensures.labels.limit ∙ now.same_limit;
       same_faults = c.take.ensures.labels.faults ∙ now.same_faults;
+      marks = marks_behind c.room-labels.result c.loop-s.object.count s now.marks;
+      words = now.words ++ words_with now.marks s;
+      known = λ label. c.in-Ok.ensures.marks label
+          ∙ marks_same c.room-labels.result c.loop-s.object.count s (marks_of (kept c.loop-s.tables)) now.marks now.known label;
+      made = made_more c.room-labels.result now.read s now.words now.marks c.loop-s.object.count c.take.new.object.count now.made
+          c.in-Ok.ensures.count;
+      has = subst (λ (ws : List ℕ). HasWords c.take.new.object (g.D.Drum.tracks c.take.new.drum) (now.words ++ ws))
+          (words_same (marks_of (kept c.loop-s.tables)) now.marks now.known s) (c.in-Ok.ensures.made now.words (rw tracks now.has));
       filled = rw (c.take.ensures.text, c.in-Ok.ensures.count) (fills_more (view c.args.text.now c.args.drum.now) (view c.loop-s.text c.loop-s.drum) (view c.read_next.new.self c.read_next.new.store) c.args.first_track (c.loop-s.object.count / 40) ((c.loop-s.object.count + words_for s) / 40) (word_log s c.args.first_track c.loop-s.object.count) (g.D.Drum.journal c.args.drum.now) (g.D.Drum.journal c.loop-s.drum) (g.D.Drum.journal c.read_next.new.store) (g.D.Drum.journal c.take.new.drum) now.filled logged wrote (wrote_word s c.args.first_track c.loop-s.object.count));
     }
 
@@ -104,6 +122,28 @@ returns-in-Err-take-clause-sound g c = λ all told good.
     let given = rw c.in-Ok-Some.field-0-is at c.in-Ok-Some.ensures.given in
     let next = next_told (view c.args.text.now c.args.drum.now).left (view c.loop-s.text c.loop-s.drum).left all now.read c.in-Ok-Some.s (view c.read_next.new.self c.read_next.new.store).left now.reads.left told given.read.left in
     stop_never c.in-Err-take.stop _ (λ odd h. right_text c.args.most all odd good (inl (wrong_next c.args.most all now.read c.in-Ok-Some.s next.0 odd c.loop-s.place c.loop-s.object.count c.loop-s.object.most next.1 now.letters now.number_is now.counted now.object_most_is h))) c.in-Err-take.ensures.spoilt
+
+pub returns-clause-read : goal.returns-clause-read
+returns-clause-read g c =
+    let now = c.loop-s.invariant in
+    let text = g.T.Text.view c.args.text.now c.args.drum.now in
+    let given = rw c.in-Ok-None.field-0-is at c.in-Ok-None.ensures.given in
+    let left = reads_end text now.read (g.T.Text.view c.loop-s.text c.loop-s.drum) now.reads given.ends in
+    read_end text now.read c.loop-s.object.count c.finish.result left now.letters now.counted c.finish.ensures.words
+
+pub returns-clause-made : goal.returns-clause-made
+returns-clause-made g c =
+    let now = c.loop-s.invariant in
+    let text = g.T.Text.view c.args.text.now c.args.drum.now in
+    let same = c.requires.same in
+    let given = rw c.in-Ok-None.field-0-is at c.in-Ok-None.ensures.given in
+    let left = reads_end text now.read (g.T.Text.view c.loop-s.text c.loop-s.drum) now.reads given.ends in
+    let tracks = sym (same.same_tracks c.read_next.new.store) ∙ c.read_next.ensures.tracks ∙ same.same_tracks c.loop-s.drum in
+    let holds = OnOk-map c.finish.result _ _
+    (λ made. rw now.object_first_is at (made now.words (rw tracks now.has))) c.finish.ensures.made in
+    let room = c.room-labels.ensures ∙ ap room_of c.limit.ensures.limit in
+    makes_end text c.args.tables.now.limit c.args.first_track c.room-labels.result now.read now.words now.marks c.loop-s.object.count
+    (g.D.Drum.tracks c.finish.new.drum) c.finish.result left room now.made now.has.count c.finish.ensures.words holds
 
 pub returns-clause-wrote : goal.returns-clause-wrote
 returns-clause-wrote g c =

@@ -1,0 +1,8 @@
+use Rattle.gier_pass9.proofs.Pages.{apart_same}
+use Rattle.gier_pass9.proofs.writer.put.Goals as goal
+
+pub returns-in-Ok-clause-text : goal.returns-in-Ok-clause-text
+returns-in-Ok-clause-text g c =
+    let same = c.requires.same in
+    g.met.T.Text.own c.args.text.now c.args.drum.now c.put.new.drum
+    (rw (same.same_tracks c.args.drum.now, same.same_tracks c.put.new.drum) (apart_same _ _ _ _ _ _ c.put.ensures.tracks c.requires.apart))
