@@ -4,7 +4,9 @@ use Rattle.std.specs.Prelude.{Result, Ok, Err, OnOk}
 use Rattle.gier_symbol.specs.declared.symbol.Symbol.{Symbol}
 use Rattle.gier_text.specs.declared.text.Way.{Way}
 use Rattle.gier_text.specs.View.{View, Appends, OrdersLeft, IsLeftIn, ordered}
-use Rattle.gier_front.specs.Stages.{IsToldAs, IsNothing}
+use Rattle.gier_front.specs.declared.stop.FrontStop.{FrontStop}
+use Rattle.gier_front.specs.declared.stop.FrontStop.TheVariants.{Errors, Read, Drum, Spoilt}
+use Rattle.gier_front.specs.Stages.{IsToldAs, IsNothing, IfDriven}
 
 some_same : {A : Type 0} (x y : A) → Some x ≡ Some y → x ≡ y
 some_same x y h = cc
@@ -22,3 +24,17 @@ written_all P (Some list) new written blank appends holds = subst (λ n. IsToldA
 pub on_ok : {T E : Type 0} (r : Result T E) (P : Type 0) → P → OnOk r P
 on_ok (Ok x) P p = p
 on_ok (Err e) P p = tt
+
+pub is_told : (held : Option (List Symbol)) (list : List Symbol) → held ≡ Some list → IsToldAs (λ l. l ≡ list) held
+is_told held list is = subst (IsToldAs (λ l. l ≡ list)) (sym is) refl
+
+pub told_is : (held : Option (List Symbol)) (list : List Symbol) → IsToldAs (λ l. l ≡ list) held → held ≡ Some list
+told_is None list told = absurd told
+told_is (Some l) list told = ap Some told
+
+pub if_driven : {T : Type 0} (r : Result T FrontStop) (P : Type 0) → P → IfDriven r P
+if_driven (Ok x) P p = p
+if_driven (Err Errors) P p = p
+if_driven (Err Read) P p = tt
+if_driven (Err Drum) P p = tt
+if_driven (Err (Spoilt odd)) P p = tt

@@ -3,3 +3,4 @@ pub mod Stages
 pub mod Handed
 pub mod Fronted
 pub mod Printed
+pub mod Early

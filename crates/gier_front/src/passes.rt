@@ -1,5 +1,5 @@
 // The way from the tape to text 6: six passes, one after the other, in which the order of the passes can be read.
-ghost use Rattle.std.specs.Prelude.{◌≡◌, ◌≤◌, ◌<◌, ◌+◌, ◌*◌, ℕ, length, OnOk, IfOk, IsErrOf, IsTrue, true, false, Some, is_some, []};
+ghost use Rattle.std.specs.Prelude.{◌≡◌, ◌≤◌, ◌<◌, ◌+◌, ◌*◌, ℕ, List, length, OnOk, IfOk, IsErrOf, IsTrue, true, false, Some, is_some, []};
 ghost use Rattle.gier_word.specs.Cause.{HasRisen};
 ghost use Rattle.gier_text.specs.Coded.{tracks_for as tracks_of};
 ghost use Rattle.gier_text.specs.Kept.{kept};
@@ -7,6 +7,9 @@ ghost use Rattle.gier_text.specs.View.{IsEmpty, IsPlacedAs};
 ghost use Rattle.gier_pass2.specs.Standing.{IsTextOne};
 ghost use Rattle.gier_front.specs.declared.stop.FrontStop.TheVariants.{Errors, Read, Drum as DrumStop};
 ghost use Rattle.gier_areas.specs.Areas.{longest, first_of, capacity_of, all_tracks};
+ghost use Rattle.gier_symbol.specs.declared.symbol.Symbol.{Symbol};
+ghost use Rattle.gier_symbol.specs.Tape.{program_of};
+ghost use Rattle.gier_front.specs.Early.{early_faults, faults_of_one, FindsEarly, FindsFirst, ArePlain};
 ghost use Rattle.gier_front.specs.Fronted.{IsFronted, FrontTakes};
 ghost use Rattle.gier_front.specs.Stages.{IsToldAs, IsNothing, AreClean, GoesOn};
 ghost use Rattle.gier_front.specs.Stops.{NotSpoilt};
@@ -48,6 +51,8 @@ pub fn front<S: Source, D: Drum>(
     ensures read { IsErrOf result Read → HasRisen (S.faults tape.old) (S.faults tape.new) }
     ensures drum { IsErrOf result DrumStop → HasRisen (D.faults drum.old) (D.faults drum.new) }
     ensures sound { is_some (D.tracks drum.old) ≡ true → NotSpoilt result }
+    ensures early { (bytes : List ℕ) → S.left tape.old ≡ Some bytes → is_some (D.tracks drum.old) ≡ true
+        → FindsEarly result (early_faults (program_of bytes)) (kept tables.new).faults }
 {
     let mut text1 = blank_text(1, LIMIT);
     match read_tape(tape, drum, &mut text1, tables) {
@@ -78,7 +83,10 @@ fn compile<D: Drum>(
     ensures errors { IsErrOf result Errors → 0 < length (kept tables.new).faults }
     ensures read { IsErrOf result Read → ⊥ }
     ensures drum { IsErrOf result DrumStop → HasRisen (D.faults drum.old) (D.faults drum.new) }
-    ensures sound { is_some (D.tracks drum.old) ≡ true → IsToldAs (IsTextOne bytes) (⟦<DrumText<D> as Text>⟧.view text1.old drum.old).held → NotSpoilt result }
+    ensures sound { is_some (D.tracks drum.old) ≡ true
+        → IsToldAs (IsTextOne bytes) (⟦<DrumText<D> as Text>⟧.view text1.old drum.old).held → NotSpoilt result }
+    ensures early { (list : List Symbol) → (⟦<DrumText<D> as Text>⟧.view text1.old drum.old).held ≡ Some list → ArePlain list
+        → is_some (D.tracks drum.old) ≡ true → FindsEarly result (faults_of_one list) (kept tables.new).faults }
 {
     let mut text2 = blank_text(2, bytes);
     run_stage::<Pass2, DrumText<D>>(bytes, drum, text1, &mut text2, tables)?;
@@ -120,7 +128,8 @@ fn read_tape<S: Source, T: Text>(
     ensures no_faults { OnOk result ((kept tables.new).faults ≡ []) }
     ensures limit { (kept tables.new).limit ≡ longest }
     ensures goes_on { OnOk result (GoesOn (T.view text.old store.old) (T.view text.new store.new)) }
-    ensures gives { IsToldAs IsNothing (T.view text.old store.old).held → IfOk result (λ bytes. IsToldAs (IsTextOne bytes) (T.view text.new store.new).held) }
+    ensures gives { IsToldAs IsNothing (T.view text.old store.old).held
+        → IfOk result (λ bytes. IsToldAs (IsTextOne bytes) (T.view text.new store.new).held) }
     ensures place { IsPlacedAs T.first_track T.end_track text.old text.new }
     ensures room { T.room store.new ≡ T.room store.old }
     ensures told { is_some (T.tracks store.new) ≡ is_some (T.tracks store.old) }
@@ -131,6 +140,8 @@ fn read_tape<S: Source, T: Text>(
     ensures read { IsErrOf result Read → HasRisen (S.faults tape.old) (S.faults tape.new) }
     ensures drum { IsErrOf result DrumStop → HasRisen (T.faults store.old) (T.faults store.new) }
     ensures sound { T.grows ≡ false → (T.view text.old store.old).capacity ≡ Some (capacity_of longest) → NotSpoilt result }
+    ensures early { (bytes : List ℕ) → S.left tape.old ≡ Some bytes → IsToldAs IsNothing (T.view text.old store.old).held
+        → FindsFirst result (program_of bytes) (kept tables.new).faults (T.view text.new store.new).held }
 {
     match Pass1::read(tape, store, text, tables) {
         Ok(bytes) => match no_faults(tables) {
@@ -178,7 +189,8 @@ fn blank_text<D: Drum>(number: u8, bytes: u32) -> DrumText<D>
     requires few { bytes ≤ longest }
     ensures empty { (result.count ≡ 0) × (result.rewound ≡ false) }
     ensures place { (result.first ≡ first_of number) × (result.capacity ≡ capacity_of bytes) }
-    ensures told { (drum : D) → is_some (D.tracks drum) ≡ true → IsToldAs IsNothing (⟦<DrumText<D> as Text>⟧.view result drum).held }
+    ensures told { (drum : D) → is_some (D.tracks drum) ≡ true
+        → IsToldAs IsNothing (⟦<DrumText<D> as Text>⟧.view result drum).held }
 {
     DrumText::at(first_track(number), capacity(bytes))
 }

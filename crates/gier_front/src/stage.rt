@@ -7,7 +7,7 @@ ghost use Rattle.gier_text.specs.declared.text.Way.{Way};
 ghost use Rattle.gier_text.specs.Kept.{kept, fresh};
 ghost use Rattle.gier_text.specs.View.{IsEmpty, IsPlacedAs, Apart, ordered};
 ghost use Rattle.gier_front.specs.declared.stop.FrontStop.TheVariants.{Errors, Read, Drum as DrumStop};
-ghost use Rattle.gier_front.specs.Stages.{IsToldAs, IsNothing, AreClean, GoesOn};
+ghost use Rattle.gier_front.specs.Stages.{IsToldAs, IsNothing, AreClean, GoesOn, Drives, IfDriven};
 ghost use Rattle.gier_front.specs.Stops.{NotSpoilt};
 
 use crate::stop::{FrontStop, of_pass, of_text};
@@ -66,7 +66,12 @@ pub(crate) fn run_stage<P: Stage + Drop, T: Text>(
     requires output_placed { T.end_track output.old ≤ T.room store.old }
     requires apart { Apart (T.first_track input.old) (T.end_track input.old) (T.first_track output.old) (T.end_track output.old) }
     ensures goes_on { OnOk result (GoesOn (T.view output.old store.old) (T.view output.new store.new)) }
-    ensures gives { IsToldAs (P.wants bytes) (T.view input.old store.old).held → IsToldAs IsNothing (T.view output.old store.old).held → OnOk result (IsToldAs (P.gives bytes) (T.view output.new store.new).held) }
+    ensures gives { IsToldAs (P.wants bytes) (T.view input.old store.old).held
+        → IsToldAs IsNothing (T.view output.old store.old).held
+        → OnOk result (IsToldAs (P.gives bytes) (T.view output.new store.new).held) }
+    ensures driven { (list : List Symbol) → (T.view input.old store.old).held ≡ Some list
+        → IsToldAs IsNothing (T.view output.old store.old).held
+        → IfDriven result (Drives P.bytes_of P.relates bytes (ordered P.reads list) tables.new (T.view output.new store.new).held) }
     ensures clean { OnOk result (AreClean bytes (kept tables.new)) }
     ensures limit { (kept tables.new).limit ≡ (kept tables.old).limit }
     ensures input_place { IsPlacedAs T.first_track T.end_track input.old input.new }
@@ -77,7 +82,8 @@ pub(crate) fn run_stage<P: Stage + Drop, T: Text>(
     ensures errors { IsErrOf result Errors → 0 < length (kept tables.new).faults }
     ensures read { IsErrOf result Read → ⊥ }
     ensures drum { IsErrOf result DrumStop → HasRisen (T.faults store.old) (T.faults store.new) }
-    ensures sound { T.grows ≡ false → IsToldAs (P.wants bytes) (T.view input.old store.old).held → (T.view output.old store.old).capacity ≡ Some (24 * bytes + 64) → NotSpoilt result }
+    ensures sound { T.grows ≡ false → IsToldAs (P.wants bytes) (T.view input.old store.old).held
+        → (T.view output.old store.old).capacity ≡ Some (24 * bytes + 64) → NotSpoilt result }
 {
     tables.clear();
     match input.rewind(store, P::way()) {

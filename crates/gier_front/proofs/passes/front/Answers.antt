@@ -1,0 +1,15 @@
+use Rattle.std.proofs.Common.{◌≡◌, ◌∙◌, List, Some, sym, subst}
+use Rattle.gier_symbol.specs.Listing.{FaultAt}
+use Rattle.gier_symbol.specs.Reading.{symbols_of}
+use Rattle.gier_symbol.specs.Tape.{program_of}
+use Rattle.gier_text.specs.declared.fault.FaultKind.{FaultKind}
+use Rattle.gier_front.specs.Early.{early_faults, FindsEarly}
+use Rattle.gier_front.proofs.Plain.{plain_symbols}
+use Rattle.gier_front.proofs.passes.front.Goals as goal
+
+pub returns-in-Ok-clause-early : goal.returns-in-Ok-clause-early
+returns-in-Ok-clause-early g c = λ tape is told.
+    let blank = c.blank_text-text1.ensures.told c.args.drum.now told in
+    let first = c.in-Ok.ensures.early tape is blank in
+    let later = c.compile.ensures.early (symbols_of (program_of tape)).symbols first.1 (plain_symbols (program_of tape)) (c.read_tape.ensures.told ∙ told) in
+    subst (λ (early : List (FaultAt FaultKind)). FindsEarly c.compile.result early c.compile.new.tables.faults.items) (sym first.0) later
