@@ -56,7 +56,8 @@ pub fn gier<S: Source, K: Sink, D: Drum>(
 
     // Where the devices tell what they hold, a run that no device stopped prints what the flat run of its object prints, and
     // then the tails. Which lines a post-mortem names isn't said.
-    ensures runs { (command : Command) (tracks : List (List ℕ)) (all : List ℕ) → IsCommand (map string_bytes words.now) command → command.check ≡ false →
+    ensures runs { (command : Command) (tracks : List (List ℕ)) (all : List ℕ) → IsCommand (map string_bytes words.now) command
+        → command.check ≡ false →
         D.tracks drum.new ≡ Some tracks → S.left tape.old ≡ Some all → IsRunEnd result →
         HasRun tracks command most_changes (S.left tape.old) result (K.holds out.old) (K.holds out.new) (D.journal drum.new) }
 
@@ -91,8 +92,10 @@ fn obey<S: Source, K: Sink, D: Drum>(
     ensures sound { command.now.check ≡ true → is_some (D.tracks drum.old) ≡ true → IsNotSpoilt result }
     ensures errors { result ≡ Errors → PrintsErrors (K.holds out.old) (K.holds out.new) }
     ensures erring { result ≡ Errors → TakesFor command.now.sample Errors (S.left tape.old) (S.left tape.new) }
-    ensures runs { (tracks : List (List ℕ)) (all : List ℕ) → command.now.check ≡ false → D.tracks drum.new ≡ Some tracks → S.left tape.old ≡ Some all
-        → IsRunEnd result → HasRun tracks command.now most_changes (S.left tape.old) result (K.holds out.old) (K.holds out.new) (D.journal drum.new) }
+    ensures runs { (tracks : List (List ℕ)) (all : List ℕ) → command.now.check ≡ false → D.tracks drum.new ≡ Some tracks
+        → S.left tape.old ≡ Some all
+        → IsRunEnd result → HasRun tracks command.now most_changes (S.left tape.old) result (K.holds out.old) (K.holds out.new)
+        (D.journal drum.new) }
     ensures tape_fault { result ≡ Tape → HasRisen (S.faults tape.old) (S.faults tape.new) }
     ensures printer_fault { result ≡ Printer → HasRisen (K.faults out.old) (K.faults out.new) }
     ensures drum_fault { result ≡ DrumStatus → HasRisen (D.faults drum.old) (D.faults drum.new) }

@@ -60,7 +60,8 @@ pub(crate) fn run_fronted<S: Source, K: Sink, D: Drum>(
     requires settings { runner.old.settings ≡ command.now.settings }
     requires traced { command.now.best ≡ true → runner.old.trace.tracks ≡ object_tracks longest }
     ensures of_run { IsOfRun result }
-    ensures runs { (tracks : List (List ℕ)) (bytes : List ℕ) → D.tracks drum.new ≡ Some tracks → S.left tape.old ≡ Some bytes → IsRunEnd result
+    ensures runs { (tracks : List (List ℕ)) (bytes : List ℕ) → D.tracks drum.new ≡ Some tracks → S.left tape.old ≡ Some bytes
+        → IsRunEnd result
         → (object : Object) × IsObject fronted object × IsAnswered command.now runner.old.trace.limit object
         (flat (code_in tracks object) object.start (take limit bytes) command.now.settings.steps command.now.settings.stack)
         result (K.holds out.old) (K.holds out.new) (D.journal drum.new) }
@@ -100,7 +101,8 @@ fn conclude<K: Sink, D: Drum>(
     requires noted { command.now.best ≡ true → AreTracks runner.old.trace }
     requires text { slice_index object.now.lengths 6 ≤ capacity_of longest }
     requires room { all_tracks longest ≤ D.room drum.old }
-    ensures put { (tracks notes : List ℕ) → Counts runner.old.recent tracks → HasNoted runner.old.trace notes → OnOk result (PutsTails (has_mortem command.now.mortem ending)
+    ensures put { (tracks notes : List ℕ) → Counts runner.old.recent tracks → HasNoted runner.old.trace notes
+        → OnOk result (PutsTails (has_mortem command.now.mortem ending)
         (run_tails ending command.now (report_of runner.old) runner.old.trace.limit tracks notes) (map live_of (activations runner.old.frames))
         (K.holds out.old) (K.holds out.new)) }
     ensures tracks { KeepsTracks (first_of 7) object_first (D.tracks drum.old) (D.tracks drum.new) }

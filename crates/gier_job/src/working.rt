@@ -61,8 +61,10 @@ pub fn work<S: Source, K: Sink, D: Drum>(
 
     // Where the devices tell what they hold, a run that no device stopped prints what the flat run of its object prints, and
     // then the tails. Which lines a post-mortem names isn't said.
-    ensures runs { (tracks : List (List ℕ)) (all : List ℕ) → command.now.check ≡ false → D.tracks drum.new ≡ Some tracks → S.left tape.old ≡ Some all
-        → IsRunEnd result → HasRun tracks command.now runner.old.trace.limit (S.left tape.old) result (K.holds out.old) (K.holds out.new) (D.journal drum.new) }
+    ensures runs { (tracks : List (List ℕ)) (all : List ℕ) → command.now.check ≡ false → D.tracks drum.new ≡ Some tracks
+        → S.left tape.old ≡ Some all
+        → IsRunEnd result → HasRun tracks command.now runner.old.trace.limit (S.left tape.old) result (K.holds out.old)
+        (K.holds out.new) (D.journal drum.new) }
 
     // A device is named only where it failed in this call.
     ensures tape_fault { result ≡ Tape → HasRisen (S.faults tape.old) (S.faults tape.new) }
@@ -118,7 +120,8 @@ fn told<K: Sink>(found: Result<Fronted, FrontStop>, tables: &Tables, out: &mut K
     ensures not_memory { result ≢ Memory }
     ensures prints { Prints result (K.holds out.old) (K.holds out.new) }
     ensures no_run { IsErr found → IsRunEnd result → ⊥ }
-    ensures takes { (sample : Option ℕ) (old new : Option (List ℕ)) → FoundFor sample found old new → TakesFor sample result old new }
+    ensures takes { (sample : Option ℕ) (old new : Option (List ℕ)) → FoundFor sample found old new
+        → TakesFor sample result old new }
     ensures tape { result ≡ Tape → IsErrOf found Read }
     ensures drum { result ≡ DrumStatus → IsErrOf found DrumStop }
     ensures printer_fault { result ≡ Printer → HasRisen (K.faults out.old) (K.faults out.new) }
