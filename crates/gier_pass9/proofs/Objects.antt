@@ -10,12 +10,14 @@ use Rattle.gier_symbol.specs.declared.tag.Tag.TheVariants.{Word}
 use Rattle.gier_symbol.specs.ByTag.{sym as symbol}
 use Rattle.gier_symbol.specs.Texts.{stands_in}
 use Rattle.gier_labels.specs.Labels.{place_of}
+use Rattle.gier_labels.specs.Pieces.{is_place, is_placed}
 use Rattle.gier_tree.specs.Object.{Piece, APlace, AUse, AWordUse, ARoom, ANeed, ACount, AWord, AnOrder, piece_of, head_of, address_in}
 use Rattle.gier_tree.specs.Object.{words_of, address_at, address_of, need_behind, is_use, is_used, known_order, in_text8}
 use Rattle.gier_tree.specs.Object.{with_place, known_from, text8_of, object_word, object_from, object_of}
+use Rattle.gier_labels.proofs.Pieces.{by_kind}
 use Rattle.gier_pass9.specs.Words.{room_of}
 use Rattle.gier_pass9.specs.Making.{Marks, no_marks, marked, word_by, words_from, object_words}
-use Rattle.gier_pass9.specs.Objects.{is_place, is_placed, Fits, AllFit, IsText7}
+use Rattle.gier_pass9.specs.Objects.{Fits, AllFit, IsText7}
 
 -- no address is above the number of words
 bound_piece : (piece : Piece) (text behind : List Symbol) (rest : List ℕ) (label before later : ℕ)
@@ -38,37 +40,6 @@ bound text [] label before = omega arith
 bound text (s ∷ behind) label before =
     bound_piece (piece_of s) text behind (object_from text behind) label before (address_of behind label (before + words_of (piece_of s)))
     (bound text behind label (before + words_of (piece_of s)))
-
--- what holds of each piece that a symbol may be holds of the one that it is
-by_kind : (s : Symbol) (P : Piece → Type 0) → (s.tag ≡ 121 → P (APlace s.value))
-    → (s.tag ≡ 122 → P (AUse (head_of s.value) (address_in s.value))) → (s.tag ≡ 123 → P (AWordUse s.value))
-    → (s.tag ≡ 124 → P (ARoom (head_of s.value) (address_in s.value)))
-    → (s.tag ≡ 125 → P (ANeed s.value)) → (s.tag ≡ 126 → P ACount) → (s.tag ≡ 120 → P (AWord s.value))
-    → (s.tag < 120 ⊎ 126 < s.tag → P (AnOrder (s.tag - 128) s.value)) → P (piece_of s)
-by_kind s P place used word_used room need count word order = elim (cases_eq s.tag 121) [
-  | inl e ↦ rw e (place e)
-  | inr n1 ↦ let t1 : nat_eq s.tag 121 ≡ false = grind (arith, nat_tests) in rw t1 (elim (cases_eq s.tag 122) [
-    | inl e ↦ rw e (used e)
-    | inr n2 ↦ let t2 : nat_eq s.tag 122 ≡ false = grind (arith, nat_tests) in rw t2 (elim (cases_eq s.tag 123) [
-      | inl e ↦ rw e (word_used e)
-      | inr n3 ↦ let t3 : nat_eq s.tag 123 ≡ false = grind (arith, nat_tests) in rw t3 (elim (cases_eq s.tag 124) [
-        | inl e ↦ rw e (room e)
-        | inr n4 ↦ let t4 : nat_eq s.tag 124 ≡ false = grind (arith, nat_tests) in rw t4 (elim (cases_eq s.tag 125) [
-          | inl e ↦ rw e (need e)
-          | inr n5 ↦ let t5 : nat_eq s.tag 125 ≡ false = grind (arith, nat_tests) in rw t5 (elim (cases_eq s.tag 126) [
-            | inl e ↦ rw e (count e)
-            | inr n6 ↦ let t6 : nat_eq s.tag 126 ≡ false = grind (arith, nat_tests) in rw t6 (elim (cases_eq s.tag 120) [
-              | inl e ↦ rw e (word e)
-              | inr n7 ↦
-                  let t7 : nat_eq s.tag 120 ≡ false = grind (arith, nat_tests) in
-                  rw t7 (order (elim (cases_lt s.tag 120) [ inl lt ↦ inl lt | inr ge ↦ inr (omega arith) ]))
-            ])
-          ])
-        ])
-      ])
-    ])
-  ])
-]
 
 -- marks that are known where they are used, and places that are still to come
 abbrev KnownAs : (text : List Symbol) → List ℕ → Marks → (used : ℕ → Bool) → Type 0

@@ -1,23 +1,15 @@
 -- Which texts 7 have an object, and that their text 8 makes just that object.
-use Rattle.std.specs.Prelude.{◌≡◌, ◌<◌, ◌+◌, ◌^◌, ◌==◌, ⊤, ℕ, Bool, false, List, [], ◌∷◌, All, IsTrue, length}
-use Rattle.std.specs.List.{list_any}
+use Rattle.std.specs.Prelude.{◌≡◌, ◌<◌, ◌+◌, ◌^◌, ⊤, ℕ, false, List, [], ◌∷◌, All, IsTrue, length}
 use Rattle.gier_symbol.specs.declared.symbol.Symbol.{Symbol}
 use Rattle.gier_symbol.specs.Texts.{stands_in}
 use Rattle.gier_labels.specs.Labels.{place_of}
+use Rattle.gier_labels.specs.Pieces.{is_placed}
 use Rattle.gier_tree.specs.Object.{Piece, APlace, ARoom, AnOrder, piece_of, need_behind, text8_of}
 use Rattle.gier_tree.specs.Object.{text8, object_of, code}
 use Rattle.gier_tree.specs.Text7.{text7}
 use Rattle.gier_tree.specs.Trees.{Program}
 use Rattle.gier_pass9.specs.Making.{object_words}
 use Rattle.gier_pass9.specs.Words.{room_of}
-
--- whether the label stands here
-abbrev pub is_place : (label : ℕ) → Piece → Bool
-is_place label (APlace found) = found == label
-is_place label piece = false
-
-abbrev pub is_placed : (label : ℕ) → List Symbol → Bool
-is_placed label text = list_any (λ s. is_place label (piece_of s)) text
 
 -- a label has room and stands nowhere behind, a room is an address, and level and address of an order take 32 bits
 abbrev pub Fits : (room : ℕ) → Piece → (behind : List Symbol) → Type 0
