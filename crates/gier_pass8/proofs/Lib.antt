@@ -1,1 +1,5 @@
 pub mod Standing
+pub mod Needs
+pub mod Settled
+pub mod Text8
+pub mod Complete

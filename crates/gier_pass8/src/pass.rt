@@ -8,7 +8,7 @@ ghost use Rattle.gier_text.specs.Log.{Logged};
 ghost use Rattle.gier_text.specs.Outbox.{if_any};
 ghost use Rattle.gier_text.specs.Passes.{SpoiltIf};
 ghost use Rattle.gier_text.specs.View.{WritesAll, IsFull, IsPlacedAs, KeepsTracks, KeepsOthers};
-ghost use Rattle.gier_pass8.specs.Standing.{IsShort, Stands};
+ghost use Rattle.gier_pass8.specs.Standing.{IsShort, Relates, Stands};
 
 use crate::step::{NEED_WIDTH, Work, room};
 use gier_symbol::{Alphabet, Coded, Symbol};
@@ -92,7 +92,7 @@ impl Pass for Pass8 {
 
     ghost stands = { λ pass tables read written. Stands pass (kept tables) read written };
 
-    ghost relates = { λ pass tables read written. IsShort 8 pass.work.bytes written };
+    ghost relates = { λ pass tables read written. Relates pass.work.bytes read written };
 
     ghost expects = { λ pass list. IsShort 7 pass.work.bytes list };
 

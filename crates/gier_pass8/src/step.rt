@@ -7,6 +7,8 @@ ghost use Rattle.gier_symbol.specs.declared.tag.Tag.TheVariants.{LabelPlace};
 ghost use Rattle.gier_symbol.specs.Texts.{is_tag_of};
 ghost use Rattle.gier_pass8.specs.Steps.{known, mark_with, order_with, word_with, last_need, text8_of, word8_of, place_before};
 ghost use Rattle.gier_pass8.specs.Lists.{HasLists, IsWritable, Keeps};
+ghost use Rattle.gier_pass8.specs.Learned.{Knows, with_known, noted, known_word, known_behind, needs_of, with_need, without_need, needs_behind};
+ghost use Rattle.gier_pass8.specs.declared.words.Label.TheVariants.{Used, At};
 
 use crate::words::{ADDRESSES, Label, filled, number_in, sum};
 use gier_symbol::{Symbol, Tag, stands_in};
@@ -50,14 +52,20 @@ impl Work {
 
     fn set_used(&self, tables: &mut Tables, number: u64)
         requires lists { HasLists self.now.bytes (kept tables.old) }
-        ensures { Keeps self.now.bytes (kept tables.old) (kept tables.new) }
+        ensures lists { Keeps self.now.bytes (kept tables.old) (kept tables.new) }
+        ensures labels { Knows (20 * self.now.bytes + 64) (kept tables.new)
+            (λ label. with_known number Used label (known (kept tables.old) label)) }
+        ensures needs { needs_of (kept tables.new) ≡ needs_of (kept tables.old) }
     {
         gier_labels::set_word(tables, number, Label::Used.word(), room(self.bytes));
     }
 
     fn set_place(&self, tables: &mut Tables, number: u64)
         requires lists { HasLists self.now.bytes (kept tables.old) }
-        ensures { Keeps self.now.bytes (kept tables.old) (kept tables.new) }
+        ensures lists { Keeps self.now.bytes (kept tables.old) (kept tables.new) }
+        ensures labels { Knows (20 * self.now.bytes + 64) (kept tables.new)
+            (λ label. with_known number (At self.now.place) label (known (kept tables.old) label)) }
+        ensures needs { needs_of (kept tables.new) ≡ needs_of (kept tables.old) }
     {
         gier_labels::set_word(
             tables,
@@ -74,6 +82,9 @@ impl Work {
         requires kind { IsTrue (is_tag_of LabelPlace s.tag) }
         ensures lists { Keeps self.now.bytes (kept tables.old) (kept tables.new) }
         ensures value { result ≡ mark_with (known (kept tables.old) s.value) s }
+        ensures labels { Knows (20 * self.now.bytes + 64) (kept tables.new)
+            (λ label. with_known s.value (At self.now.place) label (known (kept tables.old) label)) }
+        ensures needs { needs_of (kept tables.new) ≡ needs_of (kept tables.old) }
         ensures written { IfSome result IsWritable }
     {
         let known = self.label(tables, s.value);
@@ -90,6 +101,9 @@ impl Work {
         requires symbol { IsWritable s }
         ensures lists { Keeps self.now.bytes (kept tables.old) (kept tables.new) }
         ensures value { result ≡ order_with (known (kept tables.old) (number_in s.value)) s }
+        ensures labels { Knows (20 * self.now.bytes + 64) (kept tables.new) (λ label.
+            noted (known (kept tables.old) (number_in s.value)) (number_in s.value) label (known (kept tables.old) label)) }
+        ensures needs { needs_of (kept tables.new) ≡ needs_of (kept tables.old) }
         ensures written { IsWritable result }
     {
         let number = number_in(s.value);
@@ -108,6 +122,9 @@ impl Work {
         requires symbol { IsWritable s }
         ensures lists { Keeps self.now.bytes (kept tables.old) (kept tables.new) }
         ensures value { result ≡ word_with (known (kept tables.old) s.value) s }
+        ensures labels { Knows (20 * self.now.bytes + 64) (kept tables.new)
+            (λ label. noted (known (kept tables.old) s.value) s.value label (known (kept tables.old) label)) }
+        ensures needs { needs_of (kept tables.new) ≡ needs_of (kept tables.old) }
         ensures written { IsWritable result }
     {
         match self.label(tables, s.value) {
@@ -123,7 +140,9 @@ impl Work {
     fn push_need(&self, tables: &mut Tables, need: u64)
         requires lists { HasLists self.now.bytes (kept tables.old) }
         requires small { need < 2 ^ 40 }
-        ensures { Keeps self.now.bytes (kept tables.old) (kept tables.new) }
+        ensures lists { Keeps self.now.bytes (kept tables.old) (kept tables.new) }
+        ensures labels { Knows (20 * self.now.bytes + 64) (kept tables.new) (λ label. known (kept tables.old) label) }
+        ensures needs { needs_of (kept tables.new) ≡ with_need (20 * self.now.bytes + 64) need (needs_of (kept tables.old)) }
     {
         if tables.len(NEEDS) < room(self.bytes) {
             tables.push(NEEDS, &[need]);
@@ -135,6 +154,8 @@ impl Work {
         requires lists { HasLists self.now.bytes (kept tables.old) }
         ensures lists { Keeps self.now.bytes (kept tables.old) (kept tables.new) }
         ensures value { result ≡ last_need (kept tables.old) }
+        ensures labels { Knows (20 * self.now.bytes + 64) (kept tables.new) (λ label. known (kept tables.old) label) }
+        ensures needs { needs_of (kept tables.new) ≡ without_need (needs_of (kept tables.old)) }
         ensures small { result < 2 ^ 40 }
     {
         let count = tables.len(NEEDS);
@@ -152,6 +173,8 @@ impl Work {
         requires symbol { IsSymbol s }
         ensures lists { Keeps self.now.bytes (kept tables.old) (kept tables.new) }
         ensures value { result ≡ filled s (sum_of (number_in s.value) (last_need (kept tables.old))) }
+        ensures labels { Knows (20 * self.now.bytes + 64) (kept tables.new) (λ label. known (kept tables.old) label) }
+        ensures needs { needs_of (kept tables.new) ≡ without_need (needs_of (kept tables.old)) }
         ensures written { IsWritable result }
     {
         let need = self.pop_need(tables);
@@ -165,6 +188,8 @@ impl Work {
         ensures lists { Keeps self.old.bytes (kept tables.old) (kept tables.new) }
         ensures bytes { self.new.bytes ≡ self.old.bytes }
         ensures value { result ≡ text8_of (kept tables.old) s }
+        ensures labels { Knows (20 * self.old.bytes + 64) (kept tables.new) (known_behind (kept tables.old) self.old.place s) }
+        ensures needs { needs_of (kept tables.new) ≡ needs_behind (20 * self.old.bytes + 64) s (needs_of (kept tables.old)) }
         ensures place { self.new.place ≡ place_before self.old.place s }
         ensures written { IfSome result IsWritable }
     {
@@ -192,6 +217,8 @@ impl Work {
         requires symbol { IsSymbol s }
         ensures lists { Keeps self.now.bytes (kept tables.old) (kept tables.new) }
         ensures value { result ≡ word8_of (kept tables.old) s }
+        ensures labels { Knows (20 * self.now.bytes + 64) (kept tables.new) (known_word (kept tables.old) s) }
+        ensures needs { needs_of (kept tables.new) ≡ needs_of (kept tables.old) }
         ensures written { IfSome result IsWritable }
     {
         if !stands_in(8, s.tag) {
