@@ -1,24 +1,28 @@
 -- What a stage does, put together from the calls of texts and of the pass.
-use Rattle.std.proofs.Common.{false, ◌≡◌, ◌≤◌, ◌<◌, ◌++◌, ◌∙◌, ◌-◌, ◌/◌, ℕ, List, [], Option, None, Some, Result, Ok, Err, true, length, refl, sym, ap, subst, arith, inl, inr, reverse, append_assoc, ◌+◌}
+use Rattle.std.proofs.Common.{false, ◌≡◌, ◌≤◌, ◌<◌, ◌++◌, ◌∙◌, ◌-◌, ℕ, List, [], Option, None, Some, Result, Ok, Err, true, length, refl, sym, ap, subst, arith, inl, inr, reverse, append_assoc, ◌+◌}
 use Rattle.std.specs.Prelude.{IfOk, IsErrOf, OnOk, IsTrue, is_some}
-use Rattle.std.proofs.lemmas.List.{length-reverse, get_or-reverse}
+use Rattle.std.proofs.lemmas.List.{length-reverse, get_or-reverse, reverse-reverse}
 use Rattle.gier_drum.specs.declared.drum.Entry.{Entry}
 use Rattle.gier_symbol.specs.declared.symbol.Symbol.{Symbol}
 use Rattle.gier_symbol.specs.Texts.{stands_in}
 use Rattle.gier_word.specs.declared.refusal.Odd.{Odd}
 use Rattle.gier_text.specs.declared.pass.PassStop.{PassStop}
 use Rattle.gier_text.specs.declared.pass.PassStop.TheVariants.{Drum, Memory, Full, Spoilt}
-use Rattle.gier_text.specs.Coded.{symbols_of, symbol_at, told, tracks_for}
+use Rattle.gier_text.specs.Coded.{symbols_of, told, tracks_for}
 use Rattle.gier_text.specs.Driven.{SpoiltAs}
 use Rattle.gier_text.specs.Log.{LogsAll}
-use Rattle.gier_text.specs.Own.{listed_same, own_view}
+use Rattle.gier_text.specs.Own.{own_view}
 use Rattle.gier_text.specs.declared.text.Way.TheVariants.{Backward}
 use Rattle.gier_text.specs.View.{View, KeepsTracks, SameTracks, OrdersLeft}
-use Rattle.gier_text.proofs.Reading.{at_same, words_other}
 use Rattle.gier_pass7.specs.Standing.{IsShort as IsShortSeven}
-use Rattle.gier_pass8.specs.Standing.{IsShort}
+use Rattle.gier_areas.specs.Areas.{longest}
+use Rattle.gier_pass8.specs.Exact.{IsComplete, WritesText8}
+use Rattle.gier_pass8.specs.Standing.{IsShort, Relates}
 use Rattle.gier_pass9.specs.Making.{object_words, HoldsWords, Makes}
-use Rattle.gier_back.specs.Stages.{Grows, Changes}
+use Rattle.gier_pass9.specs.Objects.{IsText7}
+use Rattle.gier_pass9.proofs.Objects.{same_words}
+use Rattle.gier_tree.specs.Object.{text8_of, object_of}
+use Rattle.gier_back.specs.Stages.{Grows, Changes, Writes}
 use Rattle.gier_back.specs.declared.stop.BackStop.{BackStop}
 use Rattle.gier_back.specs.declared.stop.BackStop.TheVariants.{Drum as BackDrum}
 use Rattle.gier_back.specs.Stops.{stop_of, OnlyDrum, DrumOr, SpoiltAs as BackSpoiltAs}
@@ -128,3 +132,16 @@ made_of text limit first tracks list (Ok n) told made =
     let same : list ≡ made.list = rw told at made.left.0 in
     rw same (made.count, made.holds)
 made_of text limit first tracks list (Err stop) told made = tt
+
+-- text 8 of a text 7 makes the object that is defined from it
+pub made_from : (bytes : ℕ) (seven eight : List Symbol) → WritesText8 bytes (reverse seven) eight → IsComplete bytes seven → IsText7 longest seven
+    → object_words longest (reverse eight) ≡ object_of seven
+made_from bytes seven eight writes complete made =
+    let turned : reverse (reverse seven) ≡ seven = reverse-reverse seven in
+    let exact : reverse eight ≡ text8_of seven = rw turned at (writes.text (rw turned complete)) in
+    ap (λ (l : List Symbol). object_words longest l) exact ∙ same_words longest seven made
+
+-- what pass 8 wrote, of a program of as many bytes
+pub writes_as : {T E : Type 0} (r : Result T E) (text : View) (read : List Symbol) (some bytes : ℕ) → some ≡ bytes
+    → OnOk r (Writes (Relates some read) text) → OnOk r (Writes (Relates bytes read) text)
+writes_as r text read some bytes same wrote = subst (λ (n : ℕ). OnOk r (Writes (Relates n read) text)) same wrote

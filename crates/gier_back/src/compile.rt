@@ -11,7 +11,7 @@ ghost use Rattle.gier_text.specs.Growth.{IsLight};
 ghost use Rattle.gier_text.specs.Kept.{kept, fresh};
 ghost use Rattle.gier_text.specs.View.{IsEmpty, IsPlacedAs, Apart, SameTracks};
 ghost use Rattle.gier_pass7.specs.Standing.{IsShort as IsShortSeven};
-ghost use Rattle.gier_pass8.specs.Standing.{IsShort};
+ghost use Rattle.gier_pass8.specs.Standing.{Relates};
 ghost use Rattle.gier_pass9.specs.Making.{object_words, HoldsWords};
 ghost use Rattle.gier_pass9.specs.Object.{tracks_of};
 ghost use Rattle.gier_pass9.specs.Written.{IsWrong};
@@ -160,7 +160,7 @@ fn eight<T: Text>(
     ensures goes_on { OnOk result (GoesOn (T.view output.old store.old) (T.view output.new store.new)) }
     ensures writes { (list : List Symbol) → (T.view input.old store.old).held ≡ Some list
         → (T.view output.old store.old).held ≡ Some []
-        → OnOk result (Writes (IsShort 8 bytes) (T.view output.new store.new)) }
+        → OnOk result (Writes (Relates bytes (reverse list)) (T.view output.new store.new)) }
     ensures stays { OnOk result (Stays T.view T.first_track T.end_track input.old store.old Backward store.new) }
     ensures limit { (kept tables.new).limit ≡ (kept tables.old).limit }
     ensures place { IsPlacedAs T.first_track T.end_track output.old output.new }

@@ -2,7 +2,7 @@ use Rattle.std.proofs.Common.{◌≡◌, ◌∙◌, ◌+◌, ◌*◌, ap, sym, a
 use Rattle.gier_text.proofs.Driven.{risen_from}
 use Rattle.gier_back.specs.Compiled.{IsNoObject}
 use Rattle.gier_text.specs.Own.{found_on}
-use Rattle.gier_back.proofs.Stages.{changes_more, told_on, text_same, some_same, err_drum, only_drum, drum_or_as}
+use Rattle.gier_back.proofs.Stages.{changes_more, told_on, text_same, some_same, err_drum, only_drum, drum_or_as, made_from}
 use Rattle.gier_back.proofs.compile.back.Goals as goal
 
 pub returns-in-Err-clause-changes : goal.returns-in-Err-clause-changes
@@ -76,7 +76,8 @@ returns-in-Err-nine-clause-sound g c = λ list told light.
     let wrote7 = c.in-Ok.ensures.writes list (c.found_text-text6.ensures.held c.args.drum.now ∙ told) (c.blank_text-text7.ensures.told c.args.drum.now some) in
     let wrote8 = c.in-Ok-eight.ensures.writes wrote7.written wrote7.held (c.blank_text-text8.ensures.told c.seven.new.store (first.same_tracks.told ∙ some)) in
     drum_or_as c.in-Err-nine.stop c.of_pass-in-Err-nine.result _ (IsNoObject c.args.fronted.bytes) c.of_pass-in-Err-nine.ensures
-    (λ odd wrong. record { list = wrote8.written; short = wrote8.relates; wrong = wrong }) (c.in-Err-nine.ensures.sound wrote8.written wrote8.held)
+    (λ odd wrong. record { list = wrote8.written; short = wrote8.relates.short; wrong = wrong })
+    (c.in-Err-nine.ensures.sound wrote8.written wrote8.held)
 
 pub returns-in-Ok-nine-clause-text7 : goal.returns-in-Ok-nine-clause-text7
 returns-in-Ok-nine-clause-text7 g c = λ list told light.
@@ -100,6 +101,7 @@ returns-in-Ok-nine-clause-text7 g c = λ list told light.
     }
 
 pub returns-in-Ok-nine-clause-made : goal.returns-in-Ok-nine-clause-made
+unfolding returns-in-Ok-nine-clause-text7
 returns-in-Ok-nine-clause-made g c = λ list told light.
     let place6 = c.found_text-text6.ensures.place in
     let place7 = c.blank_text-text7.ensures.place in
@@ -112,4 +114,11 @@ returns-in-Ok-nine-clause-made g c = λ list told light.
     (c.blank_text-text8.ensures.told c.seven.new.store (first.same_tracks.told ∙ some)) in
     let limit = c.eight.ensures.limit ∙ c.seven.ensures.limit ∙ c.requires.limit in
     let made = rw limit at (c.in-Ok-nine.ensures.made wrote8.written wrote8.held) in
-    record { list = wrote8.written; short = wrote8.relates; count = made.0; holds = rw c.object_track.ensures made.1 }
+    record {
+      list = wrote8.written;
+      short = wrote8.relates.short;
+      count = made.0;
+      holds = rw c.object_track.ensures made.1;
+      seven = returns-in-Ok-nine-clause-text7 g c list told light;
+      defined = made_from c.args.fronted.bytes wrote7.written wrote8.written wrote8.relates.exact;
+    }
