@@ -121,6 +121,12 @@ nothing_yet : (old new : Option (List Symbol)) (symbols : List Symbol) → IsTol
 nothing_yet None new symbols blank appends = absurd blank
 nothing_yet (Some list) new symbols blank appends = appends ∙ ap (λ (l : List Symbol). Some (l ++ symbols)) blank
 
+-- a tape that is told has so many bytes of program text
+pub counted : (left : Option (List ℕ)) (tape : List ℕ) (added : List Fault) (old new : View) (before after : Option (List Entry)) (bytes : ℕ)
+    → left ≡ Some tape → TellsTape left added old new before after bytes → bytes ≡ length (program_of tape)
+counted left tape added old new before after bytes is tells =
+    (subst (λ (l : Option (List ℕ)). TellsTape l added old new before after bytes) is tells).0
+
 pub first_ok : (left : Option (List ℕ)) (tape : List ℕ) (added : List Fault) (old new : View) (before after : Option (List Entry)) (bytes : ℕ) → left ≡ Some tape → TellsTape left added old new before after bytes → bytes ≤ longest → added ≡ [] → IsToldAs IsNothing old.held → (early_faults (program_of tape) ≡ faults_of_one (symbols_of (program_of tape)).symbols) × (new.held ≡ Some (symbols_of (program_of tape)).symbols)
 first_ok left tape added old new before after bytes is tells short none blank =
     let told = subst (λ (l : Option (List ℕ)). TellsTape l added old new before after bytes) is tells in

@@ -4,3 +4,4 @@ pub mod Prints
 pub mod Errors
 pub mod Plain
 pub mod Early
+pub mod Six

@@ -3,14 +3,15 @@ ghost use Rattle.std.specs.Prelude.{◌≡◌, ◌≤◌, ◌<◌, ◌+◌, ◌*
 ghost use Rattle.gier_word.specs.Cause.{HasRisen};
 ghost use Rattle.gier_text.specs.Coded.{tracks_for as tracks_of};
 ghost use Rattle.gier_text.specs.Kept.{kept};
-ghost use Rattle.gier_text.specs.View.{IsEmpty, IsPlacedAs};
+ghost use Rattle.gier_text.specs.View.{IsEmpty, IsPlacedAs, Rewinds};
+ghost use Rattle.gier_text.specs.declared.text.Way.TheVariants.{Forward};
 ghost use Rattle.gier_pass2.specs.Standing.{IsTextOne};
 ghost use Rattle.gier_front.specs.declared.stop.FrontStop.TheVariants.{Errors, Read, Drum as DrumStop};
 ghost use Rattle.gier_areas.specs.Areas.{longest, first_of, capacity_of, all_tracks};
 ghost use Rattle.gier_symbol.specs.declared.symbol.Symbol.{Symbol};
 ghost use Rattle.gier_symbol.specs.Tape.{program_of};
 ghost use Rattle.gier_front.specs.Early.{early_faults, faults_of_one, FindsEarly, FindsFirst, ArePlain};
-ghost use Rattle.gier_front.specs.Fronted.{IsFronted, FrontTakes};
+ghost use Rattle.gier_front.specs.Fronted.{IsFronted, HasTextSix, FrontTakes};
 ghost use Rattle.gier_front.specs.Stages.{IsToldAs, IsNothing, AreClean, GoesOn};
 ghost use Rattle.gier_front.specs.Stops.{NotSpoilt};
 
@@ -51,6 +52,9 @@ pub fn front<S: Source, D: Drum>(
     ensures read { IsErrOf result Read → HasRisen (S.faults tape.old) (S.faults tape.new) }
     ensures drum { IsErrOf result DrumStop → HasRisen (D.faults drum.old) (D.faults drum.new) }
     ensures sound { is_some (D.tracks drum.old) ≡ true → NotSpoilt result }
+    ensures text6 { is_some (D.tracks drum.old) ≡ true → IfOk result (HasTextSix (D.tracks drum.new)) }
+    ensures counted { (bytes : List ℕ) → S.left tape.old ≡ Some bytes
+        → IfOk result (λ fronted. fronted.bytes ≡ length (program_of bytes)) }
     ensures early { (bytes : List ℕ) → S.left tape.old ≡ Some bytes → is_some (D.tracks drum.old) ≡ true
         → FindsEarly result (early_faults (program_of bytes)) (kept tables.new).faults }
 {
@@ -75,6 +79,7 @@ fn compile<D: Drum>(
     requires place { text1.old.first ≡ first_of 1 }
     requires placed { text1.old.first + tracks_of text1.old.capacity ≤ D.room drum.old }
     ensures fronted { IfOk result IsFronted }
+    ensures bytes { IfOk result (λ fronted. fronted.bytes ≡ bytes) }
     ensures clean { OnOk result (AreClean bytes (kept tables.new)) }
     ensures limit { (kept tables.new).limit ≡ (kept tables.old).limit }
     ensures room { D.room drum.new ≡ D.room drum.old }
@@ -85,6 +90,9 @@ fn compile<D: Drum>(
     ensures drum { IsErrOf result DrumStop → HasRisen (D.faults drum.old) (D.faults drum.new) }
     ensures sound { is_some (D.tracks drum.old) ≡ true
         → IsToldAs (IsTextOne bytes) (⟦<DrumText<D> as Text>⟧.view text1.old drum.old).held → NotSpoilt result }
+    ensures text6 { is_some (D.tracks drum.old) ≡ true
+        → IsToldAs (IsTextOne bytes) (⟦<DrumText<D> as Text>⟧.view text1.old drum.old).held
+        → IfOk result (HasTextSix (D.tracks drum.new)) }
     ensures early { (list : List Symbol) → (⟦<DrumText<D> as Text>⟧.view text1.old drum.old).held ≡ Some list → ArePlain list
         → is_some (D.tracks drum.old) ≡ true → FindsEarly result (faults_of_one list) (kept tables.new).faults }
 {
@@ -125,6 +133,7 @@ fn read_tape<S: Source, T: Text>(
     requires blank { IsEmpty (T.view text.old store.old) }
     requires placed { T.end_track text.old ≤ T.room store.old }
     ensures few { IfOk result (λ bytes. bytes ≤ longest) }
+    ensures counted { (bytes : List ℕ) → S.left tape.old ≡ Some bytes → IfOk result (λ count. count ≡ length (program_of bytes)) }
     ensures no_faults { OnOk result ((kept tables.new).faults ≡ []) }
     ensures limit { (kept tables.new).limit ≡ longest }
     ensures goes_on { OnOk result (GoesOn (T.view text.old store.old) (T.view text.new store.new)) }
@@ -169,6 +178,8 @@ fn close<T: Text>(store: &mut T::Store, text: &mut T, tables: &mut Tables) -> Re
     ensures cleared { kept tables.new ≡ record (kept tables.old) { used = 0; lists = [] } }
     ensures count { OnOk result ((T.view text.new store.new).count ≡ (T.view text.old store.old).count) }
     ensures capacity { OnOk result ((T.view text.new store.new).capacity ≡ (T.view text.old store.old).capacity) }
+    ensures rewinds { OnOk result (Rewinds (T.view text.old store.old) Forward (T.view text.new store.new)) }
+    ensures place { IsPlacedAs T.first_track T.end_track text.old text.new }
     ensures room { T.room store.new ≡ T.room store.old }
     ensures told { is_some (T.tracks store.new) ≡ is_some (T.tracks store.old) }
     ensures later { T.faults store.old ≤ T.faults store.new }

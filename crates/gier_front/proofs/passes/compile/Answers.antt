@@ -1,13 +1,16 @@
-use Rattle.std.proofs.Common.{◌≡◌, ◌<◌, ◌∙◌, List, length, sym, subst}
+use Rattle.std.proofs.Common.{◌∙◌, List, sym, subst}
 use Rattle.std.specs.Prelude.{⊤}
 use Rattle.gier_symbol.specs.Listing.{FaultAt}
 use Rattle.gier_text.specs.declared.fronted.Fronted.{Fronted}
 use Rattle.gier_symbol.specs.declared.symbol.Symbol.{Symbol}
+use Rattle.gier_areas.specs.Areas.{first_of}
+use Rattle.gier_text.specs.Growth.{IsLight}
 use Rattle.gier_text.specs.Kept.{kept}
 use Rattle.gier_text.specs.declared.fault.FaultKind.{FaultKind}
-use Rattle.gier_front.specs.Early.{faults_of_two, AreEarly}
+use Rattle.gier_front.specs.Early.{AreEarly}
 use Rattle.gier_front.proofs.Plain.{AreBare, all_spelled, assembled_bare, all_bare}
 use Rattle.gier_front.proofs.Early.{one_goes_on, one_finds, two_goes_on, two_finds, finds_none, finds_on}
+use Rattle.gier_front.proofs.Six.{told_on}
 use Rattle.gier_front.proofs.passes.compile.Goals as goal
 
 pub returns-in_err-run_stage-clause-early : goal.returns-in_err-run_stage-clause-early
@@ -74,3 +77,20 @@ returns-clause-early g c = λ list is plain told.
     let two = c.in_ok-run_stage-2.ensures.driven one.written one.there next in
     let none = assembled ∙ two_goes_on (kept c.run_stage-2.new.tables) one.written (two.related.found (all_bare one.written bare)) c.in_ok-run_stage-2.ensures.clean.faults in
     none
+
+pub returns-clause-text6 : goal.returns-clause-text6
+returns-clause-text6 g c = λ told one.
+    let told2 = c.run_stage.ensures.told ∙ told in
+    let told3 = c.run_stage-2.ensures.told ∙ told2 in
+    let told4 = c.run_stage-3.ensures.told ∙ told3 in
+    let told5 = c.run_stage-4.ensures.told ∙ told4 in
+    let two = c.in_ok-run_stage.ensures.gives one (c.blank_text-text2.ensures.told c.args.drum.now told) in
+    let three = c.in_ok-run_stage-2.ensures.gives two (c.blank_text-text3.ensures.told c.run_stage.new.store told2) in
+    let four = c.in_ok-run_stage-3.ensures.gives three (c.blank_text-text4.ensures.told c.run_stage-2.new.store told3) in
+    let five = c.in_ok-run_stage-4.ensures.gives four (c.blank_text-text5.ensures.told c.run_stage-3.new.store told4) in
+    let six = c.in_ok-run_stage-5.ensures.gives five (c.blank_text-text6.ensures.told c.run_stage-4.new.store told5) in
+    let t = c.close.new.text in
+    let turned = c.in_ok-close.ensures.rewinds in
+    told_on (IsLight 6 c.args.bytes) (g.D.Drum.tracks c.close.new.store) t.first t.loaded t.buffer t.count (first_of 6) c.len.result _
+    turned.held (t.unbegun turned.rewound (turned.unread ∙ sym turned.count))
+    (c.close.ensures.place.begins ∙ c.run_stage-5.ensures.output_place.begins ∙ c.blank_text-text6.ensures.place.0) c.len.ensures six
