@@ -31,7 +31,7 @@ use Rattle.gier_job.specs.declared.status.Status.{Status}
 
 -- Nothing of the object changes where only other tracks do
 
-track_is : (tracks : List (List ℕ)) (t : ℕ) → track_at tracks t ≡ track_in (Some tracks) t
+pub track_is : (tracks : List (List ℕ)) (t : ℕ) → track_at tracks t ≡ track_in (Some tracks) t
 track_is [] t = refl
 track_is (words ∷ tracks) zero = refl
 track_is (words ∷ tracks) (suc t) = track_is tracks t

@@ -6,3 +6,5 @@ pub mod Lives
 pub mod Asked
 pub mod Answered
 pub mod Runs
+pub mod Early
+pub mod Defined

@@ -1,21 +1,22 @@
 -- The run of a program that the front let stand.
 use Rattle.std.specs.Prelude.{◌≡◌, ◌≤◌, ◌++◌, ℕ, Bool, true, false, List, length, take, Option, None, Some, Ok}
-use Rattle.std.proofs.Common.{arith, refl, ap, subst, sym}
+use Rattle.std.proofs.Common.{◌∙◌, arith, refl, ap, subst, sym}
 use Rattle.gier_drum.specs.declared.drum.Entry.{Entry}
 use Rattle.gier_library.specs.Data.{limit}
 use Rattle.gier_order.specs.declared.object.Object.{Object}
 use Rattle.gier_order.specs.Misses.{misses}
 use Rattle.gier_order.specs.Flat.Run.{flat, Report}
 use Rattle.gier_areas.specs.Areas.{longest, words_of}
-use Rattle.gier_front.specs.Fronted.{IsFronted}
+use Rattle.gier_front.specs.Fronted.{IsFronted, HasTextSix}
 use Rattle.gier_text.specs.declared.fronted.Fronted.{Fronted}
 use Rattle.gier_back.specs.Compiled.{IsObject}
 use Rattle.gier_exec.specs.Rows.{code_in}
 use Rattle.gier_exec.specs.References.{tracks_of, notes_of}
 use Rattle.gier_job.specs.Checked.{FoundFor, TakesFor}
+use Rattle.gier_job.specs.Reply.{text_for}
 use Rattle.gier_job.specs.Mortem.{PutsTails}
 use Rattle.gier_job.specs.Behind.{taken_tail, misses_tail, best_plan_tail}
-use Rattle.gier_job.specs.Ran.{IsAnswered, IsPlaced, HasRun, flat_end_tail, flat_tails, flat_has_mortem}
+use Rattle.gier_job.specs.Ran.{IsAnswered, IsPlaced, IsDefined, HasRun, flat_end_tail, flat_tails, flat_has_mortem}
 use Rattle.gier_job.specs.declared.command.Command.{Command}
 use Rattle.gier_job.specs.declared.status.Status.{Status}
 use Rattle.gier_job.specs.declared.status.Status.TheVariants.{Done}
@@ -34,19 +35,30 @@ input_of : (sample : Option ℕ) (fronted : Fronted) (all : List ℕ) (new : Opt
 input_of None fronted all new takes = (_, takes, refl)
 input_of (Some calls) fronted all new takes = (all, takes, refl)
 
-pub has_run : (tracks : List (List ℕ)) (c : Command) (most : ℕ) (fronted : Fronted) (all : List ℕ) (tape left : Option (List ℕ)) (status : Status) (old new : Option (List ℕ)) (last : Option (List Entry)) → tape ≡ Some all → IsFronted fronted
+some_same : (x y : List ℕ) → Some x ≡ Some y → x ≡ y
+some_same x y h = cc
+
+pub has_run : (tracks : List (List ℕ)) (c : Command) (most : ℕ) (fronted : Fronted) (all : List ℕ)
+    (tape left : Option (List ℕ)) (compiled : Option (List (List ℕ)))
+    (status : Status) (old new : Option (List ℕ)) (last : Option (List Entry)) → tape ≡ Some all → IsFronted fronted
     → FoundFor c.sample (Ok fronted) tape left
-    → ((bytes : List ℕ) → left ≡ Some bytes → (object : Object) × IsObject fronted object × IsAnswered c most object (flat (code_in tracks object) object.start (take limit bytes) c.settings.steps c.settings.stack) status old new last)
+    → fronted.bytes ≡ length (text_for c.sample all) → HasTextSix compiled fronted
+    → ((bytes : List ℕ) → left ≡ Some bytes → (object : Object) × IsObject fronted object
+    × (HasTextSix compiled fronted → IsDefined fronted.bytes tracks c.mortem object)
+    × IsAnswered c most object (flat (code_in tracks object) object.start (take limit bytes) c.settings.steps c.settings.stack) status old new last)
     → HasRun tracks c most tape status old new last
-has_run tracks c most fronted all tape left status old new last told so takes runs =
+has_run tracks c most fronted all tape left compiled status old new last told so takes count six runs =
     let data_are = input_of c.sample fronted all left (subst (λ t. FoundFor c.sample (Ok fronted) t left) told takes) in
     let ran = runs data_are.0 data_are.1 in
     record {
       object = ran.0;
       placed = placed fronted ran.0 so ran.1;
+      bytes = fronted.bytes;
+      counted = λ other is. count ∙ ap (λ (t : List ℕ). length (text_for c.sample t)) (some_same all other (sym told ∙ is));
+      defined = ran.2 six;
       input = data_are.0;
       takes = subst (λ t. TakesFor c.sample Done t (Some data_are.0)) (sym told) data_are.2;
-      answers = ran.2;
+      answers = ran.3;
     }
 
 -- The most changes of track count only where a plan is asked for
@@ -73,6 +85,9 @@ pub has_run_most : (tracks : List (List ℕ)) (c : Command) (most other : ℕ) (
 has_run_most tracks c most other tape status old new last same ran = record {
   object = ran.object;
   placed = ran.placed;
+  bytes = ran.bytes;
+  counted = ran.counted;
+  defined = ran.defined;
   input = ran.input;
   takes = ran.takes;
   answers = answered_most c most other ran.object _ status old new last same ran.answers;

@@ -10,3 +10,4 @@ pub mod ReplyExamples
 pub mod Mortem
 pub mod Behind
 pub mod Ran
+pub mod Early

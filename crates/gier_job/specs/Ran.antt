@@ -1,5 +1,5 @@
 -- What a program's run answers, by the report of the flat run of its object.
-use Rattle.std.specs.Prelude.{◌≡◌, ◌≤◌, ◌++◌, ⊤, ℕ, Bool, List, [], length, take, Option, Some, false}
+use Rattle.std.specs.Prelude.{◌≡◌, ◌≤◌, ◌++◌, ⊤, ℕ, Bool, List, [], length, take, slice_index, Option, Some, false}
 use Rattle.gier_word.specs.Alarm.{name_of}
 use Rattle.gier_drum.specs.declared.drum.Entry.{Entry}
 use Rattle.gier_places.specs.Contents.{LogsReads}
@@ -8,11 +8,18 @@ use Rattle.gier_order.specs.declared.object.Object.{Object}
 use Rattle.gier_order.specs.Flat.Row.{Ending, Ended, Alarmed, NoSteps, Spoilt as IsSpoilt}
 use Rattle.gier_order.specs.Flat.Run.{Report, flat}
 use Rattle.gier_library.specs.Data.{limit}
-use Rattle.gier_areas.specs.Areas.{longest, object_first, words_of}
+use Rattle.gier_symbol.specs.declared.symbol.Symbol.{Symbol}
+use Rattle.gier_tree.specs.Object.{object_of}
+use Rattle.gier_text.specs.Coded.{text_on}
+use Rattle.gier_areas.specs.Areas.{longest, first_of, object_first, words_of}
+use Rattle.gier_pass7.specs.Standing.{IsShort}
+use Rattle.gier_pass8.specs.Exact.{IsComplete}
+use Rattle.gier_pass9.specs.Objects.{IsText7}
 use Rattle.gier_exec.specs.Rows.{code_in}
 use Rattle.gier_exec.specs.References.{tracks_of, notes_of}
 use Rattle.gier_job.specs.Tails.{alarm_tail, steps_tail}
 use Rattle.gier_job.specs.Checked.{TakesFor}
+use Rattle.gier_job.specs.Reply.{text_for}
 use Rattle.gier_job.specs.Mortem.{PutsTails}
 use Rattle.gier_job.specs.Behind.{count_tails}
 use Rattle.gier_job.specs.declared.command.Command.{Command}
@@ -68,12 +75,23 @@ pub record IsPlaced (object : Object) : Type 0 where
   pub some : 1 ≤ object.words
   pub few : object.words ≤ words_of longest
 
--- A program was run: an object stands in these tracks, its data are what stood behind the program text, up to the limit, and
--- the run answers what the flat run of the object's words reports.
+-- Text 7 of a program of so many bytes lies behind the first area, and after a post-mortem lay there; where all of it is known by its
+-- end, the object's words are those that are defined from it.
+pub record IsDefined (bytes : ℕ) (tracks : List (List ℕ)) (mortem : Bool) (object : Object) : Type 0 where
+  pub seven : List Symbol
+  pub held : mortem ≡ false → text_on (Some tracks) (first_of 7) (slice_index object.lengths 6) ≡ Some seven
+  pub short : IsShort 7 bytes seven
+  pub defined : IsComplete bytes seven → IsText7 longest seven → code_in tracks object ≡ object_of seven
+
+-- A program was run: an object stands in these tracks, its words are those that text 7 defines, its data are what stood behind the
+-- program text, up to the limit, and the run answers what the flat run of the object's words reports.
 pub record HasRun (tracks : List (List ℕ)) (c : Command) (most : ℕ) (tape : Option (List ℕ)) (status : Status)
     (old new : Option (List ℕ)) (journal : Option (List Entry)) : Type 0 where
   pub object : Object
   pub placed : IsPlaced object
+  pub bytes : ℕ
+  pub counted : (all : List ℕ) → tape ≡ Some all → bytes ≡ length (text_for c.sample all)
+  pub defined : IsDefined bytes tracks c.mortem object
   pub input : List ℕ
   pub takes : TakesFor c.sample Done tape (Some input)
   pub answers : IsAnswered c most object (flat (code_in tracks object) object.start (take limit input) c.settings.steps c.settings.stack) status old new journal

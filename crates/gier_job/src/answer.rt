@@ -8,6 +8,9 @@ ghost use Rattle.gier_job.specs.Command.{IsCommand, IsFew, IsWithin, IsFirstWron
 ghost use Rattle.gier_job.specs.Answer.{Refuses};
 ghost use Rattle.gier_job.specs.RunTails.{most_changes};
 ghost use Rattle.gier_job.specs.Ran.{IsRunEnd, HasRun};
+ghost use Rattle.gier_job.specs.Reply.{text_for};
+ghost use Rattle.gier_job.specs.Early.{AnswersEarly};
+ghost use Rattle.gier_kinds.specs.Errors.{errors};
 ghost use Rattle.gier_job.specs.declared.command.Command.{Command};
 ghost use Rattle.gier_job.specs.declared.status.Status.TheVariants.{Errors, Words, Tape, Printer, Drum as DrumStatus, Memory};
 
@@ -54,6 +57,12 @@ pub fn gier<S: Source, K: Sink, D: Drum>(
     ensures errors { (command : Command) → IsCommand (map string_bytes words.now) command → result ≡ Errors →
         PrintsErrors (K.holds out.old) (K.holds out.new) × TakesFor command.sample Errors (S.left tape.old) (S.left tape.new) }
 
+    // Where the devices tell what they hold, errors of bytes, words, strings, numbers and structure are printed exactly, and so is
+    // that a program is too long; and with such errors no program ends well or is run.
+    ensures early { (command : Command) (bytes : List ℕ) → IsCommand (map string_bytes words.now) command
+        → S.left tape.old ≡ Some bytes → is_some (D.tracks drum.old) ≡ true
+        → AnswersEarly result (errors (text_for command.sample bytes)) (K.holds out.old) (K.holds out.new) }
+
     // Where the devices tell what they hold, a run that no device stopped prints what the flat run of its object prints, and
     // then the tails. Which lines a post-mortem names isn't said.
     ensures runs { (command : Command) (tracks : List (List ℕ)) (all : List ℕ) → IsCommand (map string_bytes words.now) command
@@ -92,6 +101,8 @@ fn obey<S: Source, K: Sink, D: Drum>(
     ensures sound { command.now.check ≡ true → is_some (D.tracks drum.old) ≡ true → IsNotSpoilt result }
     ensures errors { result ≡ Errors → PrintsErrors (K.holds out.old) (K.holds out.new) }
     ensures erring { result ≡ Errors → TakesFor command.now.sample Errors (S.left tape.old) (S.left tape.new) }
+    ensures early { (bytes : List ℕ) → S.left tape.old ≡ Some bytes → is_some (D.tracks drum.old) ≡ true
+        → AnswersEarly result (errors (text_for command.now.sample bytes)) (K.holds out.old) (K.holds out.new) }
     ensures runs { (tracks : List (List ℕ)) (all : List ℕ) → command.now.check ≡ false → D.tracks drum.new ≡ Some tracks
         → S.left tape.old ≡ Some all
         → IsRunEnd result → HasRun tracks command.now most_changes (S.left tape.old) result (K.holds out.old) (K.holds out.new)

@@ -1,5 +1,5 @@
 // Runs a checked program: its object is made, run, and what the command asks for is printed behind what the program printed.
-ghost use Rattle.std.specs.Prelude.{◌≡◌, ◌≢◌, ◌≤◌, ◌<◌, ◌+◌, ◌^◌, ◌++◌, ℕ, List, [], IsOk, IsErr, IsErrOf, IfErr, IfOk, IfSome, OnOk, Some, length, map, take, slice_index, true, false};
+ghost use Rattle.std.specs.Prelude.{◌≡◌, ◌≢◌, ◌≤◌, ◌<◌, ◌+◌, ◌^◌, ◌++◌, ℕ, List, [], IsOk, IsErr, IsErrOf, IfErr, IfOk, IfSome, OnOk, Some, length, map, take, slice_index, is_some, true, false};
 ghost use Rattle.gier_word.specs.Cause.{HasCause, HasRisen};
 ghost use Rattle.gier_text.specs.Kept.{kept};
 ghost use Rattle.gier_io.specs.Device.{Puts};
@@ -14,11 +14,11 @@ ghost use Rattle.gier_runner.specs.State.{report_of};
 ghost use Rattle.gier_exec.specs.Reading.{tracks_for};
 ghost use Rattle.gier_text.specs.View.{KeepsTracks};
 ghost use Rattle.gier_areas.specs.Areas.{longest, all_tracks, object_tracks, capacity_of, first_of, object_first};
-ghost use Rattle.gier_front.specs.Fronted.{IsFronted};
+ghost use Rattle.gier_front.specs.Fronted.{IsFronted, HasTextSix};
 ghost use Rattle.gier_job.specs.Command.{IsWithin};
 ghost use Rattle.gier_job.specs.Status.{of_ending, IsOfRun, IsStop};
 ghost use Rattle.gier_job.specs.RunTails.{table_from, most_places};
-ghost use Rattle.gier_job.specs.Ran.{IsRunEnd, IsAnswered};
+ghost use Rattle.gier_job.specs.Ran.{IsRunEnd, IsAnswered, IsDefined};
 ghost use Rattle.gier_frames.specs.Stop.{activations};
 ghost use Rattle.gier_runner.specs.Live.{live_of};
 ghost use Rattle.gier_job.specs.Mortem.{PutsTails};
@@ -62,9 +62,12 @@ pub(crate) fn run_fronted<S: Source, K: Sink, D: Drum>(
     ensures of_run { IsOfRun result }
     ensures runs { (tracks : List (List ℕ)) (bytes : List ℕ) → D.tracks drum.new ≡ Some tracks → S.left tape.old ≡ Some bytes
         → IsRunEnd result
-        → (object : Object) × IsObject fronted object × IsAnswered command.now runner.old.trace.limit object
+        → (object : Object) × IsObject fronted object
+        × (HasTextSix (D.tracks drum.old) fronted → IsDefined fronted.bytes tracks command.now.mortem object)
+        × IsAnswered command.now runner.old.trace.limit object
         (flat (code_in tracks object) object.start (take limit bytes) command.now.settings.steps command.now.settings.stack)
         result (K.holds out.old) (K.holds out.new) (D.journal drum.new) }
+    ensures told { is_some (D.tracks drum.new) ≡ is_some (D.tracks drum.old) }
     ensures limit { (kept tables.new).limit ≡ longest }
     ensures room { D.room drum.new ≡ D.room drum.old }
     ensures settings { runner.new.settings ≡ runner.old.settings }

@@ -4,11 +4,15 @@ ghost use Rattle.gier_word.specs.Cause.{HasRisen};
 ghost use Rattle.gier_text.specs.Kept.{kept};
 ghost use Rattle.gier_front.specs.declared.stop.FrontStop.TheVariants.{Errors as HasErrors, Read, Drum as DrumStop};
 ghost use Rattle.gier_areas.specs.Areas.{longest, all_tracks, object_tracks};
-ghost use Rattle.gier_front.specs.Fronted.{IsFronted};
+ghost use Rattle.gier_front.specs.Fronted.{IsFronted, HasTextSix};
 ghost use Rattle.gier_front.specs.Stops.{NotSpoilt};
 ghost use Rattle.gier_job.specs.Command.{IsFew, IsWithin};
 ghost use Rattle.gier_job.specs.Checked.{Prints, PrintsErrors, TakesFor, FoundFor, IsNotSpoilt};
 ghost use Rattle.gier_job.specs.Ran.{IsRunEnd, HasRun};
+ghost use Rattle.gier_job.specs.Reply.{text_for};
+ghost use Rattle.gier_job.specs.Early.{AnswersEarly};
+ghost use Rattle.gier_front.specs.Early.{early_faults, FindsEarly};
+ghost use Rattle.gier_kinds.specs.Errors.{errors};
 ghost use Rattle.gier_job.specs.declared.status.Status.TheVariants.{Errors, Words, Tape, Printer, Drum as DrumStatus, Memory};
 
 use crate::Command;
@@ -59,6 +63,11 @@ pub fn work<S: Source, K: Sink, D: Drum>(
     ensures errors { result ≡ Errors → PrintsErrors (K.holds out.old) (K.holds out.new) }
     ensures refused { result ≡ Errors → TakesFor command.now.sample Errors (S.left tape.old) (S.left tape.new) }
 
+    // Where the devices tell what they hold, errors of bytes, words, strings, numbers and structure are printed exactly, and so is
+    // that a program is too long; and with such errors no program ends well or is run.
+    ensures early { (bytes : List ℕ) → S.left tape.old ≡ Some bytes → is_some (D.tracks drum.old) ≡ true
+        → AnswersEarly result (errors (text_for command.now.sample bytes)) (K.holds out.old) (K.holds out.new) }
+
     // Where the devices tell what they hold, a run that no device stopped prints what the flat run of its object prints, and
     // then the tails. Which lines a post-mortem names isn't said.
     ensures runs { (tracks : List (List ℕ)) (all : List ℕ) → command.now.check ≡ false → D.tracks drum.new ≡ Some tracks
@@ -106,6 +115,12 @@ fn compile<S: Source, D: Drum>(
     ensures read { IsErrOf result Read → HasRisen (S.faults tape.old) (S.faults tape.new) }
     ensures drum { IsErrOf result DrumStop → HasRisen (D.faults drum.old) (D.faults drum.new) }
     ensures sound { is_some (D.tracks drum.old) ≡ true → NotSpoilt result }
+    ensures told { is_some (D.tracks drum.new) ≡ is_some (D.tracks drum.old) }
+    ensures text6 { is_some (D.tracks drum.old) ≡ true → IfOk result (HasTextSix (D.tracks drum.new)) }
+    ensures counted { (bytes : List ℕ) → S.left tape.old ≡ Some bytes
+        → IfOk result (λ fronted. fronted.bytes ≡ length (text_for command.now.sample bytes)) }
+    ensures early { (bytes : List ℕ) → S.left tape.old ≡ Some bytes → is_some (D.tracks drum.old) ≡ true
+        → FindsEarly result (early_faults (text_for command.now.sample bytes)) (kept tables.new).faults }
 {
     match command.sample {
         Some(calls) => front(&mut SampleSource::of(calls), drum, tables),
@@ -126,6 +141,8 @@ fn told<K: Sink>(found: Result<Fronted, FrontStop>, tables: &Tables, out: &mut K
     ensures drum { result ≡ DrumStatus → IsErrOf found DrumStop }
     ensures printer_fault { result ≡ Printer → HasRisen (K.faults out.old) (K.faults out.new) }
     ensures sound { NotSpoilt found → IsNotSpoilt result }
+    ensures early { (text : List ℕ) → FindsEarly found (early_faults text) (kept tables.now).faults
+        → AnswersEarly result (errors text) (K.holds out.old) (K.holds out.new) }
     ensures printer_later { K.faults out.old ≤ K.faults out.new }
 {
     match found {

@@ -4,6 +4,9 @@ use Rattle.gier_job.specs.Answer.{Refuses}
 use Rattle.gier_job.specs.Checked.{TakesFor}
 use Rattle.gier_job.specs.RunTails.{most_changes}
 use Rattle.gier_job.specs.Ran.{HasRun}
+use Rattle.gier_job.specs.Reply.{text_for}
+use Rattle.gier_job.specs.Early.{AnswersEarly}
+use Rattle.gier_kinds.specs.Errors.{errors}
 use Rattle.gier_job.specs.declared.command.Command.{Command}
 use Rattle.gier_job.specs.declared.status.Status.TheVariants.{Errors}
 use Rattle.gier_job.proofs.Reading.{not_wrong, wrong_once}
@@ -47,3 +50,14 @@ returns-in-Ok-clause-runs g c = λ command tracks all is check told left end.
 
 pub returns-in-Err-clause-runs : goal.returns-in-Err-clause-runs
 returns-in-Err-clause-runs g c = λ command tracks all is check told left end. absurd (not_wrong (map string_bytes c.args.words.now) command c.in-Err.number is c.in-Err.ensures.wrong)
+
+pub returns-in-Ok-clause-early : goal.returns-in-Ok-clause-early
+returns-in-Ok-clause-early g c = λ command bytes is left told.
+    let same : command ≡ c.in-Ok.command = c.in-Ok.ensures.only command is in
+    subst
+    (λ (d : Command). AnswersEarly c.obey.result (errors (text_for d.sample bytes)) (g.K.Sink.holds c.args.out.now) (g.K.Sink.holds c.obey.new.out))
+    (sym same) (c.obey.ensures.early bytes left told)
+
+pub returns-in-Err-clause-early : goal.returns-in-Err-clause-early
+returns-in-Err-clause-early g c = λ command bytes is left told.
+    absurd (not_wrong (map string_bytes c.args.words.now) command c.in-Err.number is c.in-Err.ensures.wrong)
