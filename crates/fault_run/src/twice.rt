@@ -1,6 +1,6 @@
 // The work over devices one of which fails, and then over sound ones with the same runner.
 ghost use Rattle.std.specs.Prelude.{◌≡◌, [], false};
-ghost use Rattle.gier_text.specs.Kept.{kept};
+ghost use Rattle.gier_text.specs.TablesModel.{tables_model};
 ghost use Rattle.gier_areas.specs.Areas.{longest};
 ghost use Rattle.gier_job.specs.Command.{IsFew, IsWithin};
 
@@ -77,8 +77,8 @@ fn obey<S: Source, K: Sink, D: Drum>(
     requires few { IsFew command.now.sample }
     requires within { IsWithin command.now.settings }
     requires plain { command.now.best ≡ false }
-    requires limit { (kept tables.old).limit ≡ longest }
-    requires no_faults { (kept tables.old).faults ≡ [] }
+    requires limit { (tables_model tables.old).limit ≡ longest }
+    requires no_faults { (tables_model tables.old).faults ≡ [] }
     requires settings { runner.old.settings ≡ command.now.settings }
     ensures settings { runner.new.settings ≡ runner.old.settings }
 {

@@ -1,6 +1,6 @@
 // References to the track that was referred to last, behind few or many others.
 ghost use Rattle.std.specs.Prelude.{◌+◌, ◌<◌, ◌≤◌, ◌^◌};
-ghost use Rattle.gier_order.specs.Counts.{taken};
+ghost use Rattle.gier_order.specs.Counts.{references_taken};
 
 use gier_order::Recent;
 
@@ -22,7 +22,7 @@ pub fn misses_behind_many(turns: u32) -> u128 {
 }
 
 fn refer_to(recent: &mut Recent, track: u32, turns: u32)
-    requires { taken recent.old < 2 ^ 64 }
+    requires { references_taken recent.old < 2 ^ 64 }
 {
     for _ in 0..turns {
         recent.refer(track);

@@ -4,7 +4,7 @@ use Rattle.std.proofs.Math.Nat.{div-div-eq-div-mul, pow-succ', pow-le-pow_right,
 use Rattle.std.proofs.lemmas.Nat.{div-mul-add, mod-mul-add, pow-add}
 use Rattle.std.proofs.lemmas.List.Elements.{All-get_or}
 use Rattle.std.proofs.lemmas.Grind.{common_steps}
-use Rattle.gier_agree.specs.Packed.{first_kinds, packed, kind_in}
+use Rattle.gier_agree.specs.Packed.{first_kinds, kinds_word, kind_in}
 
 -- four bits are one digit
 pub four_bits : (n : ℕ) → 2 ^ (4 * n) ≡ 16 ^ n
@@ -46,8 +46,8 @@ kind_last : (kinds : List ℕ) → Digits kinds → (at rest : ℕ) → first_ki
 kind_last kinds small at rest =
     rw (without kinds small (suc at) rest) (mod-mul-add (first_kinds at kinds) 16 (slice_index kinds at) (small at))
 
-pub kinds_back : (kinds : List ℕ) → Digits kinds → (at : ℕ) → at < 10 → kind_in (packed kinds) at ≡ slice_index kinds at
-unfolding packed kind_in
+pub kinds_back : (kinds : List ℕ) → Digits kinds → (at : ℕ) → at < 10 → kind_in (kinds_word kinds) at ≡ slice_index kinds at
+unfolding kinds_word kind_in
 kinds_back kinds small at lt =
     let all : suc at + (9 - at) ≡ 10 = omega arith in
     let P : ℕ → Type 0 = λ n. first_kinds n kinds / 16 ^ (9 - at) % 16 ≡ slice_index kinds at in

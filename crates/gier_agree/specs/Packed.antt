@@ -7,8 +7,8 @@ first_kinds zero kinds = 0
 first_kinds (suc n) kinds = first_kinds n kinds * 16 + slice_index kinds n
 
 -- the word of at most ten kinds, the first in the highest bits
-unfoldable pub packed : List ℕ → ℕ
-packed kinds = first_kinds 10 kinds
+unfoldable pub kinds_word : List ℕ → ℕ
+kinds_word kinds = first_kinds 10 kinds
 
 -- the four bits at a place of a word, counted from the highest of its 40 bits
 unfoldable pub kind_in : ℕ → ℕ → ℕ

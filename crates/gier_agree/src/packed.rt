@@ -1,6 +1,6 @@
 // Ten kinds in a word of 40 bits: four bits each, the first kind in the highest, filled up with 0.
 ghost use Rattle.std.specs.Prelude.{◌≡◌, ℕ, ◌<◌, ◌≤◌, ◌^◌, All, length, slice_index};
-ghost use Rattle.gier_agree.specs.Packed.{packed, kind_in};
+ghost use Rattle.gier_agree.specs.Packed.{kinds_word, kind_in};
 
 // How many kinds a word has room for.
 pub(crate) const PLACES: u8 = 10;
@@ -21,7 +21,7 @@ pub fn kind_at(word: u64, at: u8) -> u8
 pub fn pack(kinds: &[u8]) -> u64
     requires room { length kinds.now ≤ 10 }
     requires bits { All (λ kind. kind < 16) kinds.now }
-    ensures value { result ≡ packed kinds.now }
+    ensures value { result ≡ kinds_word kinds.now }
     ensures range { result < 2 ^ 40 }
     ensures back { (at : ℕ) → at < 10 → kind_in result at ≡ slice_index kinds.now at }
 {

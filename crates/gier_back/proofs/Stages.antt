@@ -8,17 +8,17 @@ use Rattle.gier_symbol.specs.Texts.{stands_in}
 use Rattle.gier_word.specs.declared.refusal.Odd.{Odd}
 use Rattle.gier_text.specs.declared.pass.PassStop.{PassStop}
 use Rattle.gier_text.specs.declared.pass.PassStop.TheVariants.{Drum, Memory, Full, Spoilt}
-use Rattle.gier_text.specs.Coded.{symbols_of, told, tracks_for}
-use Rattle.gier_text.specs.Driven.{SpoiltAs}
+use Rattle.gier_text.specs.SymbolsOnTracks.{symbols_of, all_symbols, tracks_for}
+use Rattle.gier_text.specs.Drive.{SpoiltAs}
 use Rattle.gier_text.specs.Log.{LogsAll}
 use Rattle.gier_text.specs.Own.{own_view}
 use Rattle.gier_text.specs.declared.text.Way.TheVariants.{Backward}
 use Rattle.gier_text.specs.View.{View, KeepsTracks, SameTracks, OrdersLeft}
-use Rattle.gier_pass7.specs.Standing.{IsShort as IsShortSeven}
+use Rattle.gier_pass7.specs.Invariant.{IsShort as IsShortSeven}
 use Rattle.gier_areas.specs.Areas.{longest}
 use Rattle.gier_pass8.specs.Exact.{IsComplete, WritesText8}
-use Rattle.gier_pass8.specs.Standing.{IsShort, Relates}
-use Rattle.gier_pass9.specs.Making.{object_words, HoldsWords, Makes}
+use Rattle.gier_pass8.specs.Invariant.{IsShort, Relates}
+use Rattle.gier_pass9.specs.ObjectOfText.{object_words, HoldsWords, Makes}
 use Rattle.gier_pass9.specs.Objects.{IsText7}
 use Rattle.gier_pass9.proofs.Objects.{same_words}
 use Rattle.gier_tree.specs.Object.{text8_of, object_of}
@@ -57,13 +57,13 @@ short_back text bytes list h = record {
   short = omega (arith, h.short, length-reverse list);
 }
 
-pub blank_on : (tracks : Option (List (List ℕ))) (first loaded : ℕ) (buffer : List ℕ) (count : ℕ) → count ≡ 0 → is_some tracks ≡ true → told (symbols_of tracks first loaded buffer count) ≡ Some []
+pub blank_on : (tracks : Option (List (List ℕ))) (first loaded : ℕ) (buffer : List ℕ) (count : ℕ) → count ≡ 0 → is_some tracks ≡ true → all_symbols (symbols_of tracks first loaded buffer count) ≡ Some []
 unfolding symbols_of
-blank_on None first loaded buffer count none told = cc
-blank_on (Some tracks) first loaded buffer count none told = rw none refl
+blank_on None first loaded buffer count none all_symbols = cc
+blank_on (Some tracks) first loaded buffer count none all_symbols = rw none refl
 
 -- tracks are told where a text on them is
-pub told_on : (tracks : Option (List (List ℕ))) (first count : ℕ) (list : List Symbol) → told (symbols_of tracks first 0 [] count) ≡ Some list → is_some tracks ≡ true
+pub told_on : (tracks : Option (List (List ℕ))) (first count : ℕ) (list : List Symbol) → all_symbols (symbols_of tracks first 0 [] count) ≡ Some list → is_some tracks ≡ true
 unfolding symbols_of
 told_on None first count list is = cc
 told_on (Some tracks) first count list is = refl
@@ -118,7 +118,7 @@ same_part : (from to end : ℕ) (old new : Option (List (List ℕ))) → end ≤
 same_part from to end old new le h = record { told = h.told; own = λ t ge lt. h.own t ge (omega arith) }
 
 -- a text on the tracks from one up to another
-pub text_same : (from to count : ℕ) (old new : Option (List (List ℕ))) → from + tracks_for count ≤ to → SameTracks from to old new → told (symbols_of new from 0 [] count) ≡ told (symbols_of old from 0 [] count)
+pub text_same : (from to count : ℕ) (old new : Option (List (List ℕ))) → from + tracks_for count ≤ to → SameTracks from to old new → all_symbols (symbols_of new from 0 [] count) ≡ all_symbols (symbols_of old from 0 [] count)
 text_same from to count old new le h = ap (λ (v : View). v.held) (own_view old new from 0 [] count count false Backward 0 [] (omega arith) (same_part from to (from + tracks_for count) old new le h))
 
 pub some_same : {A : Type 0} (x y : A) → Some x ≡ Some y → x ≡ y
@@ -128,10 +128,10 @@ some_same x y h = cc
 pub made_of : (text : View) (limit first : ℕ) (tracks : Option (List (List ℕ))) (list : List Symbol) (r : Result ℕ PassStop)
     → text.left ≡ Some list → IfOk r (λ n. Makes text limit first tracks n)
     → IfOk r (λ n. (length (object_words limit list) ≡ n) × HoldsWords tracks first (object_words limit list))
-made_of text limit first tracks list (Ok n) told made =
-    let same : list ≡ made.list = rw told at made.left.0 in
+made_of text limit first tracks list (Ok n) all_symbols made =
+    let same : list ≡ made.list = rw all_symbols at made.left.0 in
     rw same (made.count, made.holds)
-made_of text limit first tracks list (Err stop) told made = tt
+made_of text limit first tracks list (Err stop) all_symbols made = tt
 
 -- text 8 of a text 7 makes the object that is defined from it
 pub made_from : (bytes : ℕ) (seven eight : List Symbol) → WritesText8 bytes (reverse seven) eight → IsComplete bytes seven → IsText7 longest seven

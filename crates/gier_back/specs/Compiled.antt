@@ -5,13 +5,13 @@ use Rattle.gier_symbol.specs.declared.symbol.Symbol.{Symbol}
 use Rattle.gier_word.specs.declared.refusal.Odd.{Odd}
 use Rattle.gier_areas.specs.Areas.{longest, first_of, object_first, words_of, capacity_of}
 use Rattle.gier_text.specs.declared.fronted.Fronted.{Fronted}
-use Rattle.gier_text.specs.Coded.{text_on}
-use Rattle.gier_pass7.specs.Standing.{IsShort as IsShortSeven}
+use Rattle.gier_text.specs.SymbolsOnTracks.{text_on}
+use Rattle.gier_pass7.specs.Invariant.{IsShort as IsShortSeven}
 use Rattle.gier_pass8.specs.Exact.{IsComplete}
-use Rattle.gier_pass8.specs.Standing.{IsShort}
-use Rattle.gier_pass9.specs.Making.{object_words, HoldsWords}
+use Rattle.gier_pass8.specs.Invariant.{IsShort}
+use Rattle.gier_pass9.specs.ObjectOfText.{object_words, HoldsWords}
 use Rattle.gier_pass9.specs.Objects.{IsText7}
-use Rattle.gier_pass9.specs.Written.{IsWrong}
+use Rattle.gier_pass9.specs.PassOutput.{IsWrong}
 use Rattle.gier_tree.specs.Object.{object_of}
 
 -- the tracks from this one on hold the code of a text 7 that is no longer than a text may be

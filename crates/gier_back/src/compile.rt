@@ -6,17 +6,17 @@ ghost use Rattle.gier_symbol.specs.declared.symbol.Symbol.{Symbol};
 ghost use Rattle.gier_areas.specs.Areas.{longest, all_tracks, first_of, capacity_of, words_of, object_first};
 ghost use Rattle.gier_text.specs.declared.pass.PassStop.TheVariants.{Drum as PassDrum};
 ghost use Rattle.gier_text.specs.declared.text.Way.TheVariants.{Backward};
-ghost use Rattle.gier_text.specs.Coded.{tracks_for as tracks_of_text};
-ghost use Rattle.gier_text.specs.Growth.{IsLight};
-ghost use Rattle.gier_text.specs.Kept.{kept, fresh};
+ghost use Rattle.gier_text.specs.SymbolsOnTracks.{tracks_for as tracks_of_text};
+ghost use Rattle.gier_text.specs.Potential.{IsWithinPotential};
+ghost use Rattle.gier_text.specs.TablesModel.{tables_model, fresh};
 ghost use Rattle.gier_text.specs.View.{IsEmpty, IsPlacedAs, Apart, SameTracks};
-ghost use Rattle.gier_pass7.specs.Standing.{IsShort as IsShortSeven};
-ghost use Rattle.gier_pass8.specs.Standing.{Relates};
-ghost use Rattle.gier_pass9.specs.Making.{object_words, HoldsWords};
+ghost use Rattle.gier_pass7.specs.Invariant.{IsShort as IsShortSeven};
+ghost use Rattle.gier_pass8.specs.Invariant.{Relates};
+ghost use Rattle.gier_pass9.specs.ObjectOfText.{object_words, HoldsWords};
 ghost use Rattle.gier_pass9.specs.Object.{tracks_of};
-ghost use Rattle.gier_pass9.specs.Written.{IsWrong};
+ghost use Rattle.gier_pass9.specs.PassOutput.{IsWrong};
 ghost use Rattle.gier_back.specs.declared.stop.BackStop.TheVariants.{Drum as DrumStop};
-ghost use Rattle.gier_text.specs.Coded.{text_on};
+ghost use Rattle.gier_text.specs.SymbolsOnTracks.{text_on};
 ghost use Rattle.gier_back.specs.Compiled.{AreLengths, HoldsSeven, IsObject, IsMade, IsNoObject};
 ghost use Rattle.gier_back.specs.Stages.{GoesOn, Writes, Stays, Changes, HasRoom};
 ghost use Rattle.gier_back.specs.Stops.{OnlyDrum, DrumOr, SpoiltAs};
@@ -40,24 +40,24 @@ pub fn back<D: Drum>(
     drum: &mut D,
     tables: &mut Tables,
 ) -> Result<Object, BackStop>
-    requires limit { (kept tables.old).limit ≡ longest }
-    requires no_faults { (kept tables.old).faults ≡ [] }
+    requires limit { (tables_model tables.old).limit ≡ longest }
+    requires no_faults { (tables_model tables.old).faults ≡ [] }
     requires room { all_tracks longest ≤ D.room drum.old }
     requires area { fronted.area ≡ 0 }
     requires bytes { fronted.bytes ≤ longest }
     requires symbols { fronted.symbols ≤ capacity_of fronted.bytes }
     ensures object { IfOk result (IsObject fronted) }
     ensures made { (list : List Symbol) → text_on (D.tracks drum.old) (first_of 6) fronted.symbols ≡ Some list
-        → IsLight 6 fronted.bytes list → IfOk result (IsMade (D.tracks drum.new) fronted.bytes) }
+        → IsWithinPotential 6 fronted.bytes list → IfOk result (IsMade (D.tracks drum.new) fronted.bytes) }
     ensures in_room { IfOk result (λ object. object.first_track + tracks_of object.words ≤ D.room drum.new) }
-    ensures limit { (kept tables.new).limit ≡ longest }
+    ensures limit { (tables_model tables.new).limit ≡ longest }
     ensures text7 { (list : List Symbol) → text_on (D.tracks drum.old) (first_of 6) fronted.symbols ≡ Some list
-        → IsLight 6 fronted.bytes list
+        → IsWithinPotential 6 fronted.bytes list
         → IfOk result (λ object. HoldsSeven (D.tracks drum.new) (first_of 7) fronted.bytes (slice_index object.lengths 6)) }
     ensures changes { Changes D.room D.tracks D.journal D.faults (all_tracks longest) drum.old drum.new }
     ensures drum { IsErrOf result DrumStop → HasRisen (D.faults drum.old) (D.faults drum.new) }
     ensures sound { (list : List Symbol) → text_on (D.tracks drum.old) (first_of 6) fronted.symbols ≡ Some list
-        → IsLight 6 fronted.bytes list → SpoiltAs result (IsNoObject fronted.bytes) }
+        → IsWithinPotential 6 fronted.bytes list → SpoiltAs result (IsNoObject fronted.bytes) }
 {
     let bytes = fronted.bytes;
     let mut text6 = found_text(&fronted);
@@ -106,7 +106,7 @@ fn lengths(fronted: &Fronted, seven: u32, eight: u32) -> [u32; 8]
 
 // No lists and no faults.
 fn prepare(tables: &mut Tables)
-    ensures { kept tables.new ≡ fresh (kept tables.old).limit }
+    ensures { tables_model tables.new ≡ fresh (tables_model tables.old).limit }
 {
     tables.clear();
     tables.drop_faults();
@@ -120,7 +120,7 @@ fn seven<T: Text>(
     output: &mut T,
     tables: &mut Tables,
 ) -> Result<(), PassStop>
-    requires bytes { bytes ≤ (kept tables.old).limit }
+    requires bytes { bytes ≤ (tables_model tables.old).limit }
     requires writing { (T.view input.old store.old).rewound ≡ false }
     requires blank { IsEmpty (T.view output.old store.old) }
     requires input_placed { T.end_track input.old ≤ T.room store.old }
@@ -130,12 +130,12 @@ fn seven<T: Text>(
     ensures writes { (list : List Symbol) → (T.view input.old store.old).held ≡ Some list
         → (T.view output.old store.old).held ≡ Some []
         → OnOk result (Writes (IsShortSeven 7 bytes) (T.view output.new store.new)) }
-    ensures limit { (kept tables.new).limit ≡ (kept tables.old).limit }
+    ensures limit { (tables_model tables.new).limit ≡ (tables_model tables.old).limit }
     ensures place { IsPlacedAs T.first_track T.end_track output.old output.new }
     ensures changes { (end : ℕ) → T.end_track input.old ≤ end → T.end_track output.old ≤ end
         → Changes T.room T.tracks T.journal T.faults end store.old store.new }
     ensures drum { IsErrOf result PassDrum → HasRisen (T.faults store.old) (T.faults store.new) }
-    ensures sound { T.grows ≡ false → (list : List Symbol) → (T.view input.old store.old).held ≡ Some list → IsLight 6 bytes list
+    ensures sound { T.grows ≡ false → (list : List Symbol) → (T.view input.old store.old).held ≡ Some list → IsWithinPotential 6 bytes list
         → HasRoom (T.view output.old store.old) (capacity_of bytes) → OnlyDrum result }
 {
     prepare(tables);
@@ -151,7 +151,7 @@ fn eight<T: Text>(
     output: &mut T,
     tables: &mut Tables,
 ) -> Result<(), PassStop>
-    requires bytes { bytes ≤ (kept tables.old).limit }
+    requires bytes { bytes ≤ (tables_model tables.old).limit }
     requires writing { (T.view input.old store.old).rewound ≡ false }
     requires blank { IsEmpty (T.view output.old store.old) }
     requires input_placed { T.end_track input.old ≤ T.room store.old }
@@ -162,7 +162,7 @@ fn eight<T: Text>(
         → (T.view output.old store.old).held ≡ Some []
         → OnOk result (Writes (Relates bytes (reverse list)) (T.view output.new store.new)) }
     ensures stays { OnOk result (Stays T.view T.first_track T.end_track input.old store.old Backward store.new) }
-    ensures limit { (kept tables.new).limit ≡ (kept tables.old).limit }
+    ensures limit { (tables_model tables.new).limit ≡ (tables_model tables.old).limit }
     ensures place { IsPlacedAs T.first_track T.end_track output.old output.new }
     ensures changes { (end : ℕ) → T.end_track input.old ≤ end → T.end_track output.old ≤ end
         → Changes T.room T.tracks T.journal T.faults end store.old store.new }
@@ -189,9 +189,9 @@ fn nine<D: Drum>(
     requires placed { text.old.first + tracks_of_text text.old.capacity ≤ first_of 7 }
     ensures words { IfOk result (λ words. (1 ≤ words) × (words ≤ words_of bytes)) }
     ensures made { (list : List Symbol) → (⟦<DrumText<D> as Text>⟧.view text.old drum.old).held ≡ Some list
-        → IfOk result (λ words. (length (object_words (kept tables.old).limit (reverse list)) ≡ words)
-        × HoldsWords (D.tracks drum.new) object_first (object_words (kept tables.old).limit (reverse list))) }
-    ensures limit { (kept tables.new).limit ≡ (kept tables.old).limit }
+        → IfOk result (λ words. (length (object_words (tables_model tables.old).limit (reverse list)) ≡ words)
+        × HoldsWords (D.tracks drum.new) object_first (object_words (tables_model tables.old).limit (reverse list))) }
+    ensures limit { (tables_model tables.new).limit ≡ (tables_model tables.old).limit }
     ensures changes { Changes D.room D.tracks D.journal D.faults (all_tracks longest) drum.old drum.new }
     ensures area { SameTracks (first_of 7) object_first (D.tracks drum.old) (D.tracks drum.new) }
     ensures drum { IsErrOf result PassDrum → HasRisen (D.faults drum.old) (D.faults drum.new) }

@@ -5,9 +5,9 @@ use Rattle.std.proofs.lemmas.Bool.{le-leb, lt-leb, eqb-true}
 use Rattle.std.proofs.lemmas.Bool.Decides.{nat_tests}
 use Rattle.std.proofs.lemmas.List.{length-set, length-replicate}
 use Rattle.std.proofs.Common.{eq-eqb}
-use Rattle.gier_best.specs.Plan.{is_track, holds, wanted, lowest_greatest, place_for, farthest_from, farthest}
+use Rattle.gier_best.specs.Plan.{is_track, holds, held_next_use, lowest_greatest, place_for, farthest_from, farthest}
 use Rattle.gier_best.specs.Changes.{changes_from, changes_of}
-use Rattle.gier_best.proofs.Ahead.{two_ways, later, at_once}
+use Rattle.gier_best.proofs.NextUses.{two_ways, later, at_once}
 use Rattle.gier_best.proofs.Least.{place_inside}
 
 -- two ways to tell times put what holds another track than t in the same order
@@ -36,30 +36,30 @@ same_track : (r t : ℕ) (a : Option ℕ) → nat_eq r t ≡ true → is_track t
 same_track r t a same apart = ap (λ x. is_track x a) (eqb-true r t same) ∙ apart
 
 order : (t : ℕ) (refs : List ℕ) (a b : Option ℕ) → is_track t a ≡ false → is_track t b ≡ false
-    → nat_le (wanted (changes_from (Some t) refs) a) (wanted (changes_from (Some t) refs) b) ≡ nat_le (wanted refs a) (wanted refs b)
+    → nat_le (held_next_use (changes_from (Some t) refs) a) (held_next_use (changes_from (Some t) refs) b) ≡ nat_le (held_next_use refs a) (held_next_use refs b)
 order t [] a b no_a no_b = refl
 order t (r ∷ refs) a b no_a no_b = elim (two_ways (nat_eq r t)) [
   | inl same ↦
-      rw (same, later r refs a (same_track r t a same no_a), later r refs b (same_track r t b same no_b), one_more_each (wanted refs a) (wanted refs b))
+      rw (same, later r refs a (same_track r t a same no_a), later r refs b (same_track r t b same no_b), one_more_each (held_next_use refs a) (held_next_use refs b))
       (order r refs a b (same_track r t a same no_a) (same_track r t b same no_b))
   | inr other ↦ rw other (elim (two_ways (is_track r a)) [
     | inl now_a ↦
         rw (at_once r (changes_from (Some r) refs) a now_a, at_once r refs a now_a)
-        (le-leb 0 (wanted (r ∷ changes_from (Some r) refs) b) (omega arith) ∙ sym (le-leb 0 (wanted (r ∷ refs) b) (omega arith)))
+        (le-leb 0 (held_next_use (r ∷ changes_from (Some r) refs) b) (omega arith) ∙ sym (le-leb 0 (held_next_use (r ∷ refs) b) (omega arith)))
     | inr later_a ↦
         rw (later r (changes_from (Some r) refs) a later_a, later r refs a later_a) (elim (two_ways (is_track r b)) [
           | inl now_b ↦
               rw (at_once r (changes_from (Some r) refs) b now_b, at_once r refs b now_b)
-              (lt-leb (suc (wanted (changes_from (Some r) refs) a)) 0 (omega arith) ∙ sym (lt-leb (suc (wanted refs a)) 0 (omega arith)))
+              (lt-leb (suc (held_next_use (changes_from (Some r) refs) a)) 0 (omega arith) ∙ sym (lt-leb (suc (held_next_use refs a)) 0 (omega arith)))
           | inr later_b ↦
-              rw (later r (changes_from (Some r) refs) b later_b, later r refs b later_b, one_more_each (wanted (changes_from (Some r) refs) a) (wanted (changes_from (Some r) refs) b), one_more_each (wanted refs a) (wanted refs b))
+              rw (later r (changes_from (Some r) refs) b later_b, later r refs b later_b, one_more_each (held_next_use (changes_from (Some r) refs) a) (held_next_use (changes_from (Some r) refs) b), one_more_each (held_next_use refs a) (held_next_use refs b))
               (order r refs a b later_a later_b)
         ])
   ])
 ]
 
 place_same : (t : ℕ) (refs : List ℕ) (held : List (Option ℕ)) → holds t held ≡ false → place_for (changes_from (Some t) refs) held ≡ place_for refs held
-place_same t refs held lacks = same_place (wanted (changes_from (Some t) refs)) (wanted refs) t held (record { same = order t refs }) lacks
+place_same t refs held lacks = same_place (held_next_use (changes_from (Some t) refs)) (held_next_use refs) t held (record { same = order t refs }) lacks
 
 held_when_read : (t p : ℕ) (hs : List (Option ℕ)) → p < length hs → holds t (set hs p (Some t)) ≡ true
 held_when_read t p [] lt = absurd (omega arith)

@@ -3,7 +3,7 @@ use Rattle.std.proofs.Common.{◌≡◌, ℕ, zero, suc, ◌<◌, ◌≤◌, inl
 use Rattle.std.specs.List.{list_all}
 use Rattle.std.proofs.lemmas.Bool.{le-leb, lt-leb}
 use Rattle.gier_best.specs.Plan.{lowest_greatest}
-use Rattle.gier_best.proofs.Ahead.{two_ways}
+use Rattle.gier_best.proofs.NextUses.{two_ways}
 
 -- of the first n times, the lowest place with the greatest
 pub record IsLatestOf (due : List ℕ) (most place n : ℕ) : Type 0 where

@@ -4,8 +4,8 @@
 use Rattle.std.proofs.Common.{◌≡◌, ℕ, zero, suc, ◌+◌, ◌<◌, ◌≤◌, ◌⊎◌, inl, inr, true, false, nat_eq, nat_lt, Option, Some, None, List, [], ◌∷◌, length, map, set, replicate, get_or, arith, refl, ap, ◌∙◌}
 use Rattle.std.proofs.lemmas.List.{length-map, length-set, length-replicate}
 use Rattle.std.proofs.lemmas.Bool.{lt-ltb, le-ltb, eqb-true}
-use Rattle.gier_best.specs.Plan.{holds, next_use, wanted, place_for, IsPlan, IsPlanFor, farthest_from, farthest}
-use Rattle.gier_best.proofs.Ahead.{one_if, before, before_without, copies, two_ways, one_if_most, before_most, with_reference, after_soon, after_late, none_before_zero, copies_if_held, no_copies_else, copies_most, whole, replaced, without_most, copies_of_read, greatest_before, greatest_inside}
+use Rattle.gier_best.specs.Plan.{holds, next_use, held_next_use, place_for, IsPlan, IsPlanFor, farthest_from, farthest}
+use Rattle.gier_best.proofs.NextUses.{one_if, before, before_without, copies, two_ways, one_if_most, before_most, with_reference, after_soon, after_late, none_before_zero, copies_if_held, no_copies_else, copies_most, whole, replaced, without_most, copies_of_read, greatest_before, greatest_inside}
 
 -- no two places hold the same track
 pub record Once (held : List (Option ℕ)) : Type 0 where
@@ -13,7 +13,7 @@ pub record Once (held : List (Option ℕ)) : Type 0 where
 
 -- for each time, at most n fewer places of ours are wanted before it
 pub record Lags (refs : List ℕ) (ours theirs : List (Option ℕ)) (n : ℕ) : Type 0 where
-  pub lags : (d : ℕ) → before (wanted refs) d theirs ≤ before (wanted refs) d ours + n
+  pub lags : (d : ℕ) → before (held_next_use refs) d theirs ≤ before (held_next_use refs) d ours + n
 
 sooner : (x d : ℕ) → (x < d) ⊎ (d ≤ x)
 sooner x d = grind arith
@@ -22,7 +22,7 @@ both_hold : (t : ℕ) (refs : List ℕ) (ours theirs : List (Option ℕ)) (n : �
     → copies t ours ≤ 1 → 1 ≤ copies t ours → 1 ≤ copies t theirs → Lags (t ∷ refs) ours theirs n → Lags refs ours theirs n
 both_hold t refs ours theirs n once our their l = record { lags = at_time }
   where
-    at_time : (d : ℕ) → before (wanted refs) d theirs ≤ before (wanted refs) d ours + n
+    at_time : (d : ℕ) → before (held_next_use refs) d theirs ≤ before (held_next_use refs) d ours + n
     at_time d = elim (sooner (next_use refs t) d) [
       | inl soon ↦ omega (arith, l.lags (suc d), with_reference t refs d ours, with_reference t refs d theirs, after_soon t refs d ours soon, after_soon t refs d theirs soon)
       | inr late ↦ omega (arith, l.lags (suc d), with_reference t refs d ours, with_reference t refs d theirs, after_late t refs d ours late, after_late t refs d theirs late)
@@ -33,67 +33,67 @@ ours_holds : (t : ℕ) (refs : List ℕ) (ours theirs : List (Option ℕ)) (n q 
     → Lags (t ∷ refs) ours theirs n → Lags refs ours (set theirs q (Some t)) (suc n)
 ours_holds t refs ours theirs n q once none inside l = record { lags = at_time }
   where
-    at_time : (d : ℕ) → before (wanted refs) d (set theirs q (Some t)) ≤ before (wanted refs) d ours + suc n
+    at_time : (d : ℕ) → before (held_next_use refs) d (set theirs q (Some t)) ≤ before (held_next_use refs) d ours + suc n
     at_time d = elim (sooner (next_use refs t) d) [
-      | inl soon ↦ rw (replaced (wanted refs) d q (Some t) theirs inside, lt-ltb (next_use refs t) d soon)
-          (omega (arith, l.lags (suc d), with_reference t refs d ours, with_reference t refs d theirs, after_soon t refs d ours soon, after_soon t refs d theirs soon, whole (wanted refs) d q theirs inside))
-      | inr late ↦ rw (replaced (wanted refs) d q (Some t) theirs inside, le-ltb (next_use refs t) d late)
-          (omega (arith, l.lags (suc d), with_reference t refs d ours, with_reference t refs d theirs, after_late t refs d ours late, after_late t refs d theirs late, whole (wanted refs) d q theirs inside))
+      | inl soon ↦ rw (replaced (held_next_use refs) d q (Some t) theirs inside, lt-ltb (next_use refs t) d soon)
+          (omega (arith, l.lags (suc d), with_reference t refs d ours, with_reference t refs d theirs, after_soon t refs d ours soon, after_soon t refs d theirs soon, whole (held_next_use refs) d q theirs inside))
+      | inr late ↦ rw (replaced (held_next_use refs) d q (Some t) theirs inside, le-ltb (next_use refs t) d late)
+          (omega (arith, l.lags (suc d), with_reference t refs d ours, with_reference t refs d theirs, after_late t refs d ours late, after_late t refs d theirs late, whole (held_next_use refs) d q theirs inside))
     ]
 
 some_lag : (t : ℕ) (refs : List ℕ) (ours theirs : List (Option ℕ)) (n : ℕ)
     → copies t ours ≡ 0 → 1 ≤ copies t theirs → Lags (t ∷ refs) ours theirs n → 1 ≤ n
 some_lag t refs ours theirs n none their l =
-    omega (arith, l.lags 1, with_reference t refs 0 ours, with_reference t refs 0 theirs, none_before_zero (wanted refs) t ours)
+    omega (arith, l.lags 1, with_reference t refs 0 ours, with_reference t refs 0 theirs, none_before_zero (held_next_use refs) t ours)
 
 theirs_holds : (t : ℕ) (refs : List ℕ) (ours theirs : List (Option ℕ)) (n : ℕ)
     → copies t ours ≡ 0 → 1 ≤ copies t theirs → length ours ≡ length theirs → place_for refs ours < length ours
     → Lags (t ∷ refs) ours theirs (suc n) → Lags refs (set ours (place_for refs ours) (Some t)) theirs n
 theirs_holds t refs ours theirs n none their same inside l = record { lags = at_time }
   where
-    at_time : (d : ℕ) → before (wanted refs) d theirs ≤ before (wanted refs) d (set ours (place_for refs ours) (Some t)) + n
+    at_time : (d : ℕ) → before (held_next_use refs) d theirs ≤ before (held_next_use refs) d (set ours (place_for refs ours) (Some t)) + n
     at_time d = elim (sooner (next_use refs t) d) [
-      | inl soon ↦ rw (replaced (wanted refs) d (place_for refs ours) (Some t) ours inside, lt-ltb (next_use refs t) d soon)
-          (elim (sooner (wanted refs (get_or ours (place_for refs ours) None)) d) [
-            | inl near ↦ omega (arith, greatest_before (wanted refs) d ours near, whole (wanted refs) d (place_for refs ours) ours inside, one_if_most (nat_lt (wanted refs (get_or ours (place_for refs ours) None)) d), before_most (wanted refs) d theirs)
+      | inl soon ↦ rw (replaced (held_next_use refs) d (place_for refs ours) (Some t) ours inside, lt-ltb (next_use refs t) d soon)
+          (elim (sooner (held_next_use refs (get_or ours (place_for refs ours) None)) d) [
+            | inl near ↦ omega (arith, greatest_before (held_next_use refs) d ours near, whole (held_next_use refs) d (place_for refs ours) ours inside, one_if_most (nat_lt (held_next_use refs (get_or ours (place_for refs ours) None)) d), before_most (held_next_use refs) d theirs)
             | inr far ↦ omega (arith, l.lags (suc d), with_reference t refs d ours, with_reference t refs d theirs, after_soon t refs d ours soon, after_soon t refs d theirs soon, ours_far d far)
           ])
-      | inr late ↦ rw (replaced (wanted refs) d (place_for refs ours) (Some t) ours inside, le-ltb (next_use refs t) d late)
-          (elim (sooner (wanted refs (get_or ours (place_for refs ours) None)) d) [
+      | inr late ↦ rw (replaced (held_next_use refs) d (place_for refs ours) (Some t) ours inside, le-ltb (next_use refs t) d late)
+          (elim (sooner (held_next_use refs (get_or ours (place_for refs ours) None)) d) [
             | inl near ↦ omega (
               arith,
-              greatest_before (wanted refs) d ours near,
-              whole (wanted refs) d (place_for refs ours) ours inside,
-              one_if_most (nat_lt (wanted refs (get_or ours (place_for refs ours) None)) d),
+              greatest_before (held_next_use refs) d ours near,
+              whole (held_next_use refs) d (place_for refs ours) ours inside,
+              one_if_most (nat_lt (held_next_use refs (get_or ours (place_for refs ours) None)) d),
               with_reference t refs d theirs,
               after_late t refs d theirs late,
-              before_most (wanted (t ∷ refs)) (suc d) theirs,
+              before_most (held_next_use (t ∷ refs)) (suc d) theirs,
             )
             | inr far ↦ omega (arith, l.lags (suc d), with_reference t refs d ours, with_reference t refs d theirs, after_late t refs d ours late, after_late t refs d theirs late, ours_far d far)
           ])
     ]
       where
-        ours_far : (d : ℕ) → d ≤ wanted refs (get_or ours (place_for refs ours) None) → before (wanted refs) d ours ≡ before_without (wanted refs) d (place_for refs ours) ours
-        ours_far d far = whole (wanted refs) d (place_for refs ours) ours inside ∙ rw (le-ltb (wanted refs (get_or ours (place_for refs ours) None)) d far) (omega arith)
+        ours_far : (d : ℕ) → d ≤ held_next_use refs (get_or ours (place_for refs ours) None) → before (held_next_use refs) d ours ≡ before_without (held_next_use refs) d (place_for refs ours) ours
+        ours_far d far = whole (held_next_use refs) d (place_for refs ours) ours inside ∙ rw (le-ltb (held_next_use refs (get_or ours (place_for refs ours) None)) d far) (omega arith)
 
 neither_holds : (t : ℕ) (refs : List ℕ) (ours theirs : List (Option ℕ)) (n q : ℕ)
     → copies t ours ≡ 0 → copies t theirs ≡ 0 → length ours ≡ length theirs → place_for refs ours < length ours → q < length theirs
     → Lags (t ∷ refs) ours theirs n → Lags refs (set ours (place_for refs ours) (Some t)) (set theirs q (Some t)) n
 neither_holds t refs ours theirs n q none none_there same inside inside_there l = record { lags = at_time }
   where
-    at_time : (d : ℕ) → before (wanted refs) d (set theirs q (Some t)) ≤ before (wanted refs) d (set ours (place_for refs ours) (Some t)) + n
-    at_time d = elim (sooner (wanted refs (get_or ours (place_for refs ours) None)) d) [
-      | inl near ↦ rw (replaced (wanted refs) d (place_for refs ours) (Some t) ours inside, replaced (wanted refs) d q (Some t) theirs inside_there)
-          (omega (arith, greatest_before (wanted refs) d ours near, whole (wanted refs) d (place_for refs ours) ours inside, one_if_most (nat_lt (wanted refs (get_or ours (place_for refs ours) None)) d), without_most (wanted refs) d q theirs inside_there))
-      | inr far ↦ rw (replaced (wanted refs) d (place_for refs ours) (Some t) ours inside, replaced (wanted refs) d q (Some t) theirs inside_there)
+    at_time : (d : ℕ) → before (held_next_use refs) d (set theirs q (Some t)) ≤ before (held_next_use refs) d (set ours (place_for refs ours) (Some t)) + n
+    at_time d = elim (sooner (held_next_use refs (get_or ours (place_for refs ours) None)) d) [
+      | inl near ↦ rw (replaced (held_next_use refs) d (place_for refs ours) (Some t) ours inside, replaced (held_next_use refs) d q (Some t) theirs inside_there)
+          (omega (arith, greatest_before (held_next_use refs) d ours near, whole (held_next_use refs) d (place_for refs ours) ours inside, one_if_most (nat_lt (held_next_use refs (get_or ours (place_for refs ours) None)) d), without_most (held_next_use refs) d q theirs inside_there))
+      | inr far ↦ rw (replaced (held_next_use refs) d (place_for refs ours) (Some t) ours inside, replaced (held_next_use refs) d q (Some t) theirs inside_there)
           (elim (sooner (next_use refs t) d) [
-            | inl soon ↦ omega (arith, l.lags (suc d), with_reference t refs d ours, with_reference t refs d theirs, after_soon t refs d ours soon, after_soon t refs d theirs soon, ours_far d far, whole (wanted refs) d q theirs inside_there)
-            | inr late ↦ omega (arith, l.lags (suc d), with_reference t refs d ours, with_reference t refs d theirs, after_late t refs d ours late, after_late t refs d theirs late, ours_far d far, whole (wanted refs) d q theirs inside_there)
+            | inl soon ↦ omega (arith, l.lags (suc d), with_reference t refs d ours, with_reference t refs d theirs, after_soon t refs d ours soon, after_soon t refs d theirs soon, ours_far d far, whole (held_next_use refs) d q theirs inside_there)
+            | inr late ↦ omega (arith, l.lags (suc d), with_reference t refs d ours, with_reference t refs d theirs, after_late t refs d ours late, after_late t refs d theirs late, ours_far d far, whole (held_next_use refs) d q theirs inside_there)
           ])
     ]
       where
-        ours_far : (d : ℕ) → d ≤ wanted refs (get_or ours (place_for refs ours) None) → before (wanted refs) d ours ≡ before_without (wanted refs) d (place_for refs ours) ours
-        ours_far d far = whole (wanted refs) d (place_for refs ours) ours inside ∙ rw (le-ltb (wanted refs (get_or ours (place_for refs ours) None)) d far) (omega arith)
+        ours_far : (d : ℕ) → d ≤ held_next_use refs (get_or ours (place_for refs ours) None) → before (held_next_use refs) d ours ≡ before_without (held_next_use refs) d (place_for refs ours) ours
+        ours_far d far = whole (held_next_use refs) d (place_for refs ours) ours inside ∙ rw (le-ltb (held_next_use refs (get_or ours (place_for refs ours) None)) d far) (omega arith)
 
 still_once : (t p : ℕ) (ours : List (Option ℕ)) → copies t ours ≡ 0 → Once ours → Once (set ours p (Some t))
 still_once t p ours none o = record { once = each }
@@ -110,8 +110,8 @@ still_once t p ours none o = record { once = each }
 
 pub place_inside : (refs : List ℕ) (held : List (Option ℕ)) → 0 < length held → place_for refs held < length held
 place_inside refs held some =
-    let mapped : length (map (wanted refs) held) ≡ length held = length-map held (wanted refs) in
-    omega (arith, greatest_inside (map (wanted refs) held) (omega arith))
+    let mapped : length (map (held_next_use refs) held) ≡ length held = length-map held (held_next_use refs) in
+    omega (arith, greatest_inside (map (held_next_use refs) held) (omega arith))
 
 -- what is to be shown of a list of references
 abbrev IsBestFor : List ℕ → Type 0

@@ -5,8 +5,8 @@ use Rattle.std.proofs.lemmas.List.{take-append-le, length-append, length-take}
 use Rattle.std.proofs.lemmas.Grind.{common_steps}
 use Rattle.gier_best.specs.Plan.{is_track}
 use Rattle.gier_best.specs.Changes.{last_from, changes_from, changes_of}
-use Rattle.gier_best.specs.Traced.{Traced, after_change, HasNoted, AreTracks}
-use Rattle.gier_best.proofs.Ahead.{two_ways}
+use Rattle.gier_best.specs.TraceModel.{Traced, after_change, HasNoted, AreTracks}
+use Rattle.gier_best.proofs.NextUses.{two_ways}
 
 last_from-append : (last : Option ℕ) (refs : List ℕ) (t : ℕ) → last_from last (refs ++ t ∷ []) ≡ Some t
 last_from-append last [] t = refl

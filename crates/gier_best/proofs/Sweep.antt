@@ -5,8 +5,8 @@ use Rattle.std.proofs.lemmas.Grind.{get_or-set_at}
 use Rattle.std.proofs.Math.Seq.{drop-cons}
 use Rattle.std.proofs.lemmas.Bool.{eqb-true}
 use Rattle.gier_best.specs.Plan.{next_use}
-use Rattle.gier_best.specs.Holding.{AreNextUses}
-use Rattle.gier_best.proofs.Ahead.{two_ways}
+use Rattle.gier_best.specs.PlannerState.{AreNextUses}
+use Rattle.gier_best.proofs.NextUses.{two_ways}
 use Rattle.gier_best.proofs.Index.{same_or_other}
 
 -- the sweep has come down to this change

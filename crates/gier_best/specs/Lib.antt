@@ -1,4 +1,4 @@
 pub mod Plan
 pub mod Changes
-pub mod Traced
-pub mod Holding
+pub mod TraceModel
+pub mod PlannerState

@@ -33,9 +33,9 @@ next_use [] track = 0
 next_use (ref ∷ refs) track = cond (nat_eq ref track) 0 (suc (next_use refs track))
 
 -- when what a place holds is wanted: nothing is wanted later than each track
-abbrev pub wanted : List ℕ → Option ℕ → ℕ
-wanted refs None = suc (length refs)
-wanted refs (Some track) = next_use refs track
+abbrev pub held_next_use : List ℕ → Option ℕ → ℕ
+held_next_use refs None = suc (length refs)
+held_next_use refs (Some track) = next_use refs track
 
 -- where the greatest number of a list stands, the lowest such place
 abbrev pub lowest_greatest : List ℕ → ℕ
@@ -44,7 +44,7 @@ lowest_greatest (x ∷ xs) = cond (list_all (λ y. nat_le y x) xs) 0 (suc (lowes
 
 -- the lowest empty place, or else the lowest of those whose track is wanted latest
 abbrev pub place_for : List ℕ → List (Option ℕ) → ℕ
-place_for refs held = lowest_greatest (map (wanted refs) held)
+place_for refs held = lowest_greatest (map (held_next_use refs) held)
 
 -- the plan that reads each track into that place
 abbrev pub farthest_from : List ℕ → List (Option ℕ) → List (ℕ × ℕ)

@@ -1,6 +1,6 @@
 // What the places hold while a plan is made, and which place a track is read into. The plan itself is made elsewhere.
 ghost use Rattle.std.specs.Prelude.{◌≡◌, ◌≢◌, ℕ, suc, ◌+◌, ◌<◌, ◌≤◌, ◌^◌, [], ◌∷◌, ◌++◌, length, slice_index, slice_set, if◌then◌else◌, nat_lt, IfOk, IfSome, IsNone, vec_capacity};
-ghost use Rattle.gier_best.specs.Holding.{IsIndex, put};
+ghost use Rattle.gier_best.specs.PlannerState.{IsIndex, put};
 ghost use Rattle.gier_best.specs.Plan.{lowest_greatest};
 
 use crate::uses::refill;

@@ -1,7 +1,7 @@
 // The plan that gives up the track wanted farthest ahead, made change by change.
 ghost use Rattle.std.specs.Prelude.{◌≡◌, ℕ, suc, ◌+◌, ◌<◌, ◌≤◌, All, List, [], ◌∷◌, length, slice_index, vec_capacity};
 ghost use Rattle.gier_best.specs.Plan.{next_use, farthest};
-ghost use Rattle.gier_best.specs.Holding.{AreNextUses, IsIndex, IsPlanned};
+ghost use Rattle.gier_best.specs.PlannerState.{AreNextUses, IsIndex, IsPlanned};
 
 use crate::places::Places;
 

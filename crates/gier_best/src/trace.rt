@@ -2,7 +2,7 @@
 ghost use Rattle.std.specs.Prelude.{◌≡◌, ℕ, ◌<◌, ◌≤◌, ◌↔◌, List, [], ◌∷◌, ◌++◌, length, IfOk, IfSome, IsNone, Some, slice_get};
 ghost use Rattle.gier_best.specs.Plan.{is_track, IsPlanFor, farthest};
 ghost use Rattle.gier_best.specs.Changes.{changes_of};
-ghost use Rattle.gier_best.specs.Traced.{fresh, after_change, HasNoted, AreTracks, KeepsSettings};
+ghost use Rattle.gier_best.specs.TraceModel.{fresh, after_change, HasNoted, AreTracks, KeepsSettings};
 
 use crate::places::{Places, reserved};
 use crate::planner::plan_reads;
@@ -27,7 +27,7 @@ pub struct Trace {
 
 impl Model for Trace {
     ghost use Rattle.std.specs.Prelude.{◌≤◌, length, vec_capacity};
-    ghost use Rattle.gier_best.specs.Traced.{Traced};
+    ghost use Rattle.gier_best.specs.TraceModel.{Traced};
 
     ghost Value = { Traced };
 

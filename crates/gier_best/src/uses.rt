@@ -1,6 +1,6 @@
 // When the track of each change is referred to next, by one sweep from the last change to the first.
 ghost use Rattle.std.specs.Prelude.{◌≡◌, ℕ, ◌<◌, ◌≤◌, ◌^◌, All, length, replicate, vec_capacity};
-ghost use Rattle.gier_best.specs.Holding.{AreNextUses};
+ghost use Rattle.gier_best.specs.PlannerState.{AreNextUses};
 
 /// Fills `next` with the position of the next change to each one's track, or the number of changes where there is none.
 /// `seen` is working room with a word for each of the `tracks`.

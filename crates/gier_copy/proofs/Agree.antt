@@ -8,12 +8,12 @@ use Rattle.gier_meaning.specs.Live.{Live}
 use Rattle.gier_meaning.specs.State.{Entity, Nothing, ACell, AnArray, ALabel, Kept, State}
 use Rattle.gier_meaning.specs.Scopes.{labels, of_block, identifiers_of, of_procedure}
 use Rattle.gier_meaning.specs.What.{What}
-use Rattle.gier_meaning.specs.Maps.{Map, Binding, map_of, used_in, assigned_in, hidden, hidden_in_body}
+use Rattle.gier_meaning.specs.Maps.{Map, Binding, map_of, used_in, assigned_in, map_without, hidden_in_body}
 use Rattle.gier_meaning.specs.Close.{close_name, close, close_lefts, close_element, close_elements, close_in, close_statements, close_declarations}
-use Rattle.gier_meaning.specs.Turns.{name_in_turn, in_turn, lefts_in_turn, elements_in_turn, inner, declarations_in_turn, statements_in_turn}
+use Rattle.gier_meaning.specs.TurnLabels.{name_in_turn, in_turn, lefts_in_turn, elements_in_turn, inner, declarations_in_turn, statements_in_turn}
 use Rattle.gier_meaning.specs.Bodies.{Body, ProcedureBody, SwitchList, body_what, entity_what, as_formal, what_in}
 use Rattle.gier_meaning.specs.Tasks as copy
-use Rattle.gier_env.specs.Env.{Env, Denoted, AnEntity, AProcedure, AFormalProcedure, AText, AStandard, AnActual, denoted, left_meaning, found}
+use Rattle.gier_env.specs.Env.{Env, Denoted, AnEntity, AProcedure, AFormalProcedure, AText, AStandard, AnActual, denotation, left_meaning, found}
 use Rattle.gier_env.specs.Closures.{Closure, closure_what, denoted_what, option_what, what_of}
 use Rattle.gier_env.specs.Tasks as env
 use Rattle.gier_copy.proofs.Images.{used, assigned, name_of, map_in, body_in, entity_of, state_of, carried, same, all_passed}
@@ -34,7 +34,7 @@ loop_of m turn loop = record {
   variable = close_name (used loop.env) loop.variable;
   place = loop.place;
   turn = turn;
-  body = close_in (hidden (labels loop.body) m) loop.body;
+  body = close_in (map_without (labels loop.body) m) loop.body;
 }
 
 pub record Agree (next : copy.Next) (next1 : env.Next) : Type 0 where
@@ -50,8 +50,8 @@ pub record Agree (next : copy.Next) (next1 : env.Next) : Type 0 where
       (all_passed passed) live (state_of s)
       ≡ carried same (next1.procedure own kind formals body home passed live s)
   pub block : (ds : Declarations) (ss : Statements) (env : Env) (live : Live) (s : State Closure)
-      → next.block (close_declarations (hidden (identifiers_of (of_block ds ss)) (map_in env)) ds)
-      (close_statements (hidden (identifiers_of (of_block ds ss)) (map_in env)) ss) live (state_of s)
+      → next.block (close_declarations (map_without (identifiers_of (of_block ds ss)) (map_in env)) ds)
+      (close_statements (map_without (identifiers_of (of_block ds ss)) (map_in env)) ss) live (state_of s)
       ≡ carried same (next1.block ds ss env live s)
   pub rest : (label : ℕ) (own : List ℕ) (m : Map) (turn : List Binding) (ss : Statements) (env : Env) → Fits m turn env
       → (live : Live) (s : State Closure)
@@ -73,7 +73,7 @@ meets_by : (n u : Name) (x : ℕ) (o : Option Denoted) → n ≡ Identifier x �
 meets_by n u x None e p = (x, p ∙ e)
 meets_by n u x (Some d) e p = p
 
-pub name_meets : (e : Env) (n : Name) → Meets (close_name (used e) n) (denoted e n)
+pub name_meets : (e : Env) (n : Name) → Meets (close_name (used e) n) (denotation e n)
 name_meets e (Identifier x) = meets_by (Identifier x) (used e x) x (found e x) refl (name_meant e (Identifier x))
 name_meets e (name.AnEntity n) = refl
 name_meets e (name.AProcedure n) = refl
@@ -118,7 +118,7 @@ option_what_same s n None m = ap (what_closed s) m.1
 option_what_same s n (Some d) m = ap (what_closed s) m ∙ denoted_what_same s d
 
 pub what_match : (e : Env) (s : State Closure) → Match (used e) (what_closed s) (what_of e s)
-what_match e s n = option_what_same s (close_name (used e) n) (denoted e n) (name_meets e n)
+what_match e s n = option_what_same s (close_name (used e) n) (denotation e n) (name_meets e n)
 
 -- ---- in turns
 
@@ -168,39 +168,39 @@ module _ (m : Map) (turn : List Binding) (e : Env) (fits : Fits m turn e) (ds : 
   own = identifiers_of (of_block ds ss)
 
   abbrev ds1 : Declarations
-  ds1 = close_declarations (hidden own m) ds
+  ds1 = close_declarations (map_without own m) ds
 
   abbrev ss1 : Statements
-  ss1 = close_statements (hidden own m) ss
+  ss1 = close_statements (map_without own m) ss
 
   own_same : identifiers_of (of_block ds1 ss1) ≡ own
-  own_same = ap identifiers_of (block_stays (hidden own m) ds ss (keeps_hidden own m.used))
+  own_same = ap identifiers_of (block_stays (map_without own m) ds ss (keeps_hidden own m.used))
 
-  inner_map : then_map (hidden own m) (hidden own (map_of turn)) ≡ hidden own (map_in e)
-  inner_map = hidden_map own m (map_of turn) fits.proper ∙ ap (hidden own) (fits_map m turn e fits)
+  inner_map : then_map (map_without own m) (map_without own (map_of turn)) ≡ map_without own (map_in e)
+  inner_map = hidden_map own m (map_of turn) fits.proper ∙ ap (map_without own) (fits_map m turn e fits)
 
-  declarations_inner : close_declarations (inner turn ds1 ss1) ds1 ≡ close_declarations (hidden own (map_in e)) ds
+  declarations_inner : close_declarations (inner turn ds1 ss1) ds1 ≡ close_declarations (map_without own (map_in e)) ds
   declarations_inner =
-      ap (λ u. close_declarations (hidden u (map_of turn)) ds1) own_same
-      ∙ declarations_then (hidden own m) (hidden own (map_of turn)) (proper_map own m fits.proper) ds
+      ap (λ u. close_declarations (map_without u (map_of turn)) ds1) own_same
+      ∙ declarations_then (map_without own m) (map_without own (map_of turn)) (proper_map own m fits.proper) ds
       ∙ ap (λ k. close_declarations k ds) inner_map
 
-  statements_inner : close_statements (inner turn ds1 ss1) ss1 ≡ close_statements (hidden own (map_in e)) ss
+  statements_inner : close_statements (inner turn ds1 ss1) ss1 ≡ close_statements (map_without own (map_in e)) ss
   statements_inner =
-      ap (λ u. close_statements (hidden u (map_of turn)) ss1) own_same
-      ∙ statements_then (hidden own m) (hidden own (map_of turn)) (proper_map own m fits.proper) ss
+      ap (λ u. close_statements (map_without u (map_of turn)) ss1) own_same
+      ∙ statements_then (map_without own m) (map_without own (map_of turn)) (proper_map own m fits.proper) ss
       ∙ ap (λ k. close_statements k ss) inner_map
 
 pub declarations_turned : (m : Map) (turn : List Binding) (e : Env) → Fits m turn e → (ds : Declarations) (ss : Statements)
-    → declarations_in_turn turn (close_declarations (hidden (identifiers_of (of_block ds ss)) m) ds)
-    (close_statements (hidden (identifiers_of (of_block ds ss)) m) ss)
-    ≡ close_declarations (hidden (identifiers_of (of_block ds ss)) (map_in e)) ds
-declarations_turned m [] e fits ds ss = ap (λ k. close_declarations (hidden (identifiers_of (of_block ds ss)) k) ds) (fits_none m e fits)
+    → declarations_in_turn turn (close_declarations (map_without (identifiers_of (of_block ds ss)) m) ds)
+    (close_statements (map_without (identifiers_of (of_block ds ss)) m) ss)
+    ≡ close_declarations (map_without (identifiers_of (of_block ds ss)) (map_in e)) ds
+declarations_turned m [] e fits ds ss = ap (λ k. close_declarations (map_without (identifiers_of (of_block ds ss)) k) ds) (fits_none m e fits)
 declarations_turned m (b ∷ turn) e fits ds ss = declarations_inner m (b ∷ turn) e fits ds ss
 
 pub statements_turned : (m : Map) (turn : List Binding) (e : Env) → Fits m turn e → (ds : Declarations) (ss : Statements)
-    → statements_in_turn turn (close_declarations (hidden (identifiers_of (of_block ds ss)) m) ds)
-    (close_statements (hidden (identifiers_of (of_block ds ss)) m) ss)
-    ≡ close_statements (hidden (identifiers_of (of_block ds ss)) (map_in e)) ss
-statements_turned m [] e fits ds ss = ap (λ k. close_statements (hidden (identifiers_of (of_block ds ss)) k) ss) (fits_none m e fits)
+    → statements_in_turn turn (close_declarations (map_without (identifiers_of (of_block ds ss)) m) ds)
+    (close_statements (map_without (identifiers_of (of_block ds ss)) m) ss)
+    ≡ close_statements (map_without (identifiers_of (of_block ds ss)) (map_in e)) ss
+statements_turned m [] e fits ds ss = ap (λ k. close_statements (map_without (identifiers_of (of_block ds ss)) k) ss) (fits_none m e fits)
 statements_turned m (b ∷ turn) e fits ds ss = statements_inner m (b ∷ turn) e fits ds ss

@@ -6,8 +6,8 @@ use Rattle.std.proofs.lemmas.Bool.{eq-eqb}
 use Rattle.gier_agree.specs.declared.kind.Kind.{Kind}
 use Rattle.gier_meaning.specs.Tree.{Name, Identifier, AnEntity, AProcedure, AFormalProcedure, AText, AStandard, AnActual, Expr, Number, Logical, Alone, Subscripted, Called, Bracketed, Prefixed, Joined, IfExpr, Quoted, Exprs, NoExprs, MoreExprs, Element, Once, StepUntil, While, Formal, Statement, Labelled, Dummy, Compound, Block, Assign, GoTo, CallOf, If, IfElse, For, Statements, NoStatements, MoreStatements, Declarations, NoDeclarations, Variables, Arrays, Switch, Procedure}
 use Rattle.gier_meaning.specs.Outcome.{is_among}
-use Rattle.gier_meaning.specs.Scopes.{identifier_in, identifiers_in, labels, all_labels, Declared, quantities, procedures, declared, of_block, identifier_of, identifiers_of, formal_identifiers, of_procedure}
-use Rattle.gier_meaning.specs.Maps.{Map, hidden, hidden_from, own_left, hidden_in_body}
+use Rattle.gier_meaning.specs.Scopes.{identifier_in, identifiers_in, labels, all_labels, Declared, quantities, procedures, declared_names, of_block, identifier_of, identifiers_of, formal_identifiers, of_procedure}
+use Rattle.gier_meaning.specs.Maps.{Map, map_without, hidden_from, own_left, hidden_in_body}
 use Rattle.gier_meaning.specs.Close.{close_name, close, close_all, close_left, close_lefts, close_element, close_elements, close_names, close_in, close_statements, close_declarations}
 
 -- a map leaves an identifier as it is or replaces it by what is none
@@ -200,40 +200,40 @@ pub procedures_first : (xs : List ℕ) (ds : List Declared) → identifiers_of (
 procedures_first xs ds = identifiers_append (procedures xs) ds ∙ ap (λ u. u ++ identifiers_of ds) (of_procedures xs)
 
 pub block_identifiers : (ds : Declarations) (ss : Statements) → identifiers_of (of_block ds ss)
-    ≡ identifiers_of (declared ds) ++ all_labels ss
-block_identifiers ds ss = identifiers_append (declared ds) (quantities (all_labels ss))
-    ∙ ap (λ u. identifiers_of (declared ds) ++ u) (of_quantities (all_labels ss))
+    ≡ identifiers_of (declared_names ds) ++ all_labels ss
+block_identifiers ds ss = identifiers_append (declared_names ds) (quantities (all_labels ss))
+    ∙ ap (λ u. identifiers_of (declared_names ds) ++ u) (of_quantities (all_labels ss))
 
-pub declared_stay : (m : Map) (ds : Declarations) → Keeps m.used (identifiers_of (declared ds)) → declared (close_declarations m ds)
-    ≡ declared ds
+pub declared_stay : (m : Map) (ds : Declarations) → Keeps m.used (identifiers_of (declared_names ds)) → declared_names (close_declarations m ds)
+    ≡ declared_names ds
 declared_stay m NoDeclarations k = refl
 declared_stay m (Variables kind ns ds) k =
     let xs = identifiers_in ns in
-    let k1 = subst (Keeps m.used) (quantities_first xs (declared ds)) k in
-    ap₂ (λ u v. quantities u ++ v) (names_stay m ns (keeps_left xs (identifiers_of (declared ds)) k1))
-    (declared_stay m ds (keeps_right xs (identifiers_of (declared ds)) k1))
+    let k1 = subst (Keeps m.used) (quantities_first xs (declared_names ds)) k in
+    ap₂ (λ u v. quantities u ++ v) (names_stay m ns (keeps_left xs (identifiers_of (declared_names ds)) k1))
+    (declared_stay m ds (keeps_right xs (identifiers_of (declared_names ds)) k1))
 declared_stay m (Arrays kind line ns bounds ds) k =
     let xs = identifiers_in ns in
-    let k1 = subst (Keeps m.used) (quantities_first xs (declared ds)) k in
-    ap₂ (λ u v. quantities u ++ v) (names_stay m ns (keeps_left xs (identifiers_of (declared ds)) k1))
-    (declared_stay m ds (keeps_right xs (identifiers_of (declared ds)) k1))
+    let k1 = subst (Keeps m.used) (quantities_first xs (declared_names ds)) k in
+    ap₂ (λ u v. quantities u ++ v) (names_stay m ns (keeps_left xs (identifiers_of (declared_names ds)) k1))
+    (declared_stay m ds (keeps_right xs (identifiers_of (declared_names ds)) k1))
 declared_stay m (Switch line n elements ds) k =
     let xs = identifier_in n in
-    let k1 = subst (Keeps m.used) (quantities_first xs (declared ds)) k in
-    ap₂ (λ u v. quantities u ++ v) (identifier_stays m.used n (keeps_left xs (identifiers_of (declared ds)) k1))
-    (declared_stay m ds (keeps_right xs (identifiers_of (declared ds)) k1))
+    let k1 = subst (Keeps m.used) (quantities_first xs (declared_names ds)) k in
+    ap₂ (λ u v. quantities u ++ v) (identifier_stays m.used n (keeps_left xs (identifiers_of (declared_names ds)) k1))
+    (declared_stay m ds (keeps_right xs (identifiers_of (declared_names ds)) k1))
 declared_stay m (Procedure line kind own n formals body ds) k =
     let xs = identifier_in n in
-    let k1 = subst (Keeps m.used) (procedures_first xs (declared ds)) k in
-    ap₂ (λ u v. procedures u ++ v) (identifier_stays m.used n (keeps_left xs (identifiers_of (declared ds)) k1))
-    (declared_stay m ds (keeps_right xs (identifiers_of (declared ds)) k1))
+    let k1 = subst (Keeps m.used) (procedures_first xs (declared_names ds)) k in
+    ap₂ (λ u v. procedures u ++ v) (identifier_stays m.used n (keeps_left xs (identifiers_of (declared_names ds)) k1))
+    (declared_stay m ds (keeps_right xs (identifiers_of (declared_names ds)) k1))
 
 pub block_stays : (m : Map) (ds : Declarations) (ss : Statements) → Keeps m.used (identifiers_of (of_block ds ss))
     → of_block (close_declarations m ds) (close_statements m ss) ≡ of_block ds ss
 block_stays m ds ss k =
     let k1 = subst (Keeps m.used) (block_identifiers ds ss) k in
-    ap₂ (λ u v. u ++ quantities v) (declared_stay m ds (keeps_left (identifiers_of (declared ds)) (all_labels ss) k1))
-    (all_labels_stay m ss (keeps_right (identifiers_of (declared ds)) (all_labels ss) k1))
+    ap₂ (λ u v. u ++ quantities v) (declared_stay m ds (keeps_left (identifiers_of (declared_names ds)) (all_labels ss) k1))
+    (all_labels_stay m ss (keeps_right (identifiers_of (declared_names ds)) (all_labels ss) k1))
 
 pub procedure_stays : (m : Map) (formals : List Formal) (body : Statement) → Keeps m.used (of_procedure formals body)
     → of_procedure formals (close_in m body) ≡ of_procedure formals body
@@ -273,7 +273,7 @@ pub names_then : (m k : Map) (ns : List Name) → close_names k (close_names m n
 names_then m k [] = refl
 names_then m k (n ∷ ns) = ap₂ ◌∷◌ (name_then m.used k.used n) (names_then m k ns)
 
-pub hidden_map : (xs : List ℕ) (m k : Map) → ProperMap m → then_map (hidden xs m) (hidden xs k) ≡ hidden xs (then_map m k)
+pub hidden_map : (xs : List ℕ) (m k : Map) → ProperMap m → then_map (map_without xs m) (map_without xs k) ≡ map_without xs (then_map m k)
 hidden_map xs m k proper = ap₂ as_map (hidden_then xs m.used k.used proper.used) (hidden_then xs m.assigned k.assigned proper.assigned)
 
 pub hidden_body : (kind : Kind) (own : ℕ) (xs : List ℕ) (m k : Map) → ProperMap m
@@ -281,7 +281,7 @@ pub hidden_body : (kind : Kind) (own : ℕ) (xs : List ℕ) (m k : Map) → Prop
 hidden_body kind own xs m k proper = ap₂ as_map (hidden_then xs m.used k.used proper.used)
     (hidden_then (own_left kind own ++ xs) m.assigned k.assigned proper.assigned)
 
-pub proper_map : (xs : List ℕ) (m : Map) → ProperMap m → ProperMap (hidden xs m)
+pub proper_map : (xs : List ℕ) (m : Map) → ProperMap m → ProperMap (map_without xs m)
 proper_map xs m proper = record { used = proper_hidden xs m.used proper.used; assigned = proper_hidden xs m.assigned proper.assigned }
 
 pub proper_body : (kind : Kind) (own : ℕ) (xs : List ℕ) (m : Map) → ProperMap m → ProperMap (hidden_in_body kind own xs m)
@@ -298,12 +298,12 @@ mutual
   in_then m k proper (Compound ss) = ap Compound (statements_then m k proper ss)
   in_then m k proper (Block line ds ss) =
       let xs : List ℕ = identifiers_of (of_block ds ss) in
-      let m1 : Map = hidden xs m in
+      let m1 : Map = map_without xs m in
       let stays = ap identifiers_of (block_stays m1 ds ss (keeps_hidden xs m.used)) in
       let p = proper_map xs m proper in
-      ap (λ u. Block line (close_declarations (hidden u k) (close_declarations m1 ds))
-      (close_statements (hidden u k) (close_statements m1 ss))) stays
-      ∙ ap₂ (Block line) (declarations_then m1 (hidden xs k) p ds) (statements_then m1 (hidden xs k) p ss)
+      ap (λ u. Block line (close_declarations (map_without u k) (close_declarations m1 ds))
+      (close_statements (map_without u k) (close_statements m1 ss))) stays
+      ∙ ap₂ (Block line) (declarations_then m1 (map_without xs k) p ds) (statements_then m1 (map_without xs k) p ss)
       ∙ ap (λ u. Block line (close_declarations u ds) (close_statements u ss)) (hidden_map xs m k proper)
   in_then m k proper (Assign lefts e) = ap₂ Assign (lefts_then m k lefts) (close_then m.used k.used e)
   in_then m k proper (GoTo line e) = ap (GoTo line) (close_then m.used k.used e)
@@ -314,15 +314,15 @@ mutual
       ∙ ap (IfElse (close (then_names m.used k.used) test) (close_in (then_map m k) s)) (in_then m k proper other)
   in_then m k proper (For line variable place elements s) =
       let xs : List ℕ = labels s in
-      let m1 : Map = hidden xs m in
+      let m1 : Map = map_without xs m in
       let stays = labels_stay m1 s (keeps_hidden xs m.used) in
       let p = proper_map xs m proper in
       ap (λ u. For line (close_name k.used (close_name m.used variable)) place (close_elements k (close_elements m elements))
-      (close_in (hidden u k) (close_in m1 s))) stays
-      ∙ ap₂ (λ u v. For line u place v (close_in (hidden xs k) (close_in m1 s))) (name_then m.used k.used variable)
+      (close_in (map_without u k) (close_in m1 s))) stays
+      ∙ ap₂ (λ u v. For line u place v (close_in (map_without xs k) (close_in m1 s))) (name_then m.used k.used variable)
       (elements_then m k elements)
       ∙ ap (For line (close_name (then_names m.used k.used) variable) place (close_elements (then_map m k) elements))
-      (in_then m1 (hidden xs k) p s ∙ ap (λ u. close_in u s) (hidden_map xs m k proper))
+      (in_then m1 (map_without xs k) p s ∙ ap (λ u. close_in u s) (hidden_map xs m k proper))
 
   pub statements_then : (m k : Map) → ProperMap m → (ss : Statements) → close_statements k (close_statements m ss)
       ≡ close_statements (then_map m k) ss

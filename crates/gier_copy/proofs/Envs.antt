@@ -10,7 +10,7 @@ use Rattle.gier_meaning.specs.Maps as list
 use Rattle.gier_meaning.specs.Maps.{Map, Binding, used_in, assigned_in, hidden_from}
 use Rattle.gier_meaning.specs.Close.{close_name}
 use Rattle.gier_meaning.specs.Blocks as copy
-use Rattle.gier_env.specs.Env.{Env, Outermost, Inside, Bindings, NoBindings, Means, Returns, Denoted, AnEntity, AProcedure, AFormalProcedure, AText, AStandard, AnActual, found_in, found, denoted, left_meaning, numbered}
+use Rattle.gier_env.specs.Env.{Env, Outermost, Inside, Bindings, NoBindings, Means, Returns, Denoted, AnEntity, AProcedure, AFormalProcedure, AText, AStandard, AnActual, found_in, found, denotation, left_meaning, with_entities}
 use Rattle.gier_env.specs.Env as env
 use Rattle.gier_env.specs.Tasks as task
 use Rattle.gier_env.specs.Blocks.{formals_bound}
@@ -84,11 +84,11 @@ assigned_named (Means y d bs) x u o p = two_ways (Identifier x) (x == y) d (assi
 assigned_named (Returns y cell bs) x u o p = two_ways (Identifier x) (x == y) (AnEntity cell) (assigned_by bs x u) (env.assigned_in bs x o)
     (assigned_named bs x u o p)
 
-left_named : (e : Env) (x : ℕ) → assigned e x ≡ name_in (Identifier x) (env.assigned e x)
+left_named : (e : Env) (x : ℕ) → assigned e x ≡ name_in (Identifier x) (env.denotation_as_left_part e x)
 left_named Outermost x = refl
-left_named (Inside bs e) x = assigned_named bs x (assigned e x) (env.assigned e x) (left_named e x)
+left_named (Inside bs e) x = assigned_named bs x (assigned e x) (env.denotation_as_left_part e x) (left_named e x)
 
-pub name_meant : (e : Env) (n : Name) → close_name (used e) n ≡ name_in n (denoted e n)
+pub name_meant : (e : Env) (n : Name) → close_name (used e) n ≡ name_in n (denotation e n)
 name_meant e (Identifier x) = found_named e x
 name_meant e (name.AnEntity n) = refl
 name_meant e (name.AProcedure n) = refl
@@ -113,7 +113,7 @@ list_of NoBindings = []
 list_of (Means y d bs) = list.Means y (name_of d) ∷ list_of bs
 list_of (Returns y cell bs) = list.Returns y cell ∷ list_of bs
 
-pub numbered_list : (n : ℕ) (ds : List Declared) (bs : Bindings) → list.numbered n ds ++ list_of bs ≡ list_of (numbered n ds bs)
+pub numbered_list : (n : ℕ) (ds : List Declared) (bs : Bindings) → list.entity_bindings n ds ++ list_of bs ≡ list_of (with_entities n ds bs)
 numbered_list n [] bs = refl
 numbered_list n (Quantity x ∷ ds) bs = ap (◌∷◌ (list.Means x (name.AnEntity n))) (numbered_list (suc n) ds bs)
 numbered_list n (ProcedureName x ∷ ds) bs = ap (◌∷◌ (list.Means x (name.AProcedure n))) (numbered_list (suc n) ds bs)
@@ -139,12 +139,12 @@ all_in NoBindings = []
 all_in (Means y d bs) = y ∷ all_in bs
 all_in (Returns y cell bs) = y ∷ all_in bs
 
-pub numbered_means : (n : ℕ) (ds : List Declared) (bs : Bindings) → means_in (numbered n ds bs) ≡ identifiers_of ds ++ means_in bs
+pub numbered_means : (n : ℕ) (ds : List Declared) (bs : Bindings) → means_in (with_entities n ds bs) ≡ identifiers_of ds ++ means_in bs
 numbered_means n [] bs = refl
 numbered_means n (Quantity x ∷ ds) bs = ap (◌∷◌ x) (numbered_means (suc n) ds bs)
 numbered_means n (ProcedureName x ∷ ds) bs = ap (◌∷◌ x) (numbered_means (suc n) ds bs)
 
-pub numbered_all : (n : ℕ) (ds : List Declared) (bs : Bindings) → all_in (numbered n ds bs) ≡ identifiers_of ds ++ all_in bs
+pub numbered_all : (n : ℕ) (ds : List Declared) (bs : Bindings) → all_in (with_entities n ds bs) ≡ identifiers_of ds ++ all_in bs
 numbered_all n [] bs = refl
 numbered_all n (Quantity x ∷ ds) bs = ap (◌∷◌ x) (numbered_all (suc n) ds bs)
 numbered_all n (ProcedureName x ∷ ds) bs = ap (◌∷◌ x) (numbered_all (suc n) ds bs)

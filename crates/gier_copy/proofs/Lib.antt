@@ -5,7 +5,7 @@ mod Rooms
 mod States
 mod Agree
 mod Parts
-mod Turning
-mod Running
-mod Entering
-mod Whole
+mod ForLoops
+mod StatementsAgree
+mod EntriesAgree
+mod WholeProgram

@@ -11,7 +11,7 @@ use Rattle.gier_meaning.specs.Lines.{line_of}
 use Rattle.gier_meaning.specs.Live.{Live, InProcedure, InEvaluation}
 use Rattle.gier_meaning.specs.State.{Entity, Nothing, ACell, AnArray, ALabel, Kept, State}
 use Rattle.gier_meaning.specs.Outcome.{Outcome, Gives, senseless}
-use Rattle.gier_meaning.specs.Operators.{is_true, joined, prefixed}
+use Rattle.gier_meaning.specs.Operators.{is_true, apply_operator, apply_prefix}
 use Rattle.gier_meaning.specs.Scopes.{of_procedure}
 use Rattle.gier_meaning.specs.What.{kinds}
 use Rattle.gier_meaning.specs.Room.{evaluation_room, procedure_room}
@@ -21,11 +21,11 @@ use Rattle.gier_meaning.specs.Close.{close_name, close, close_all, close_left, c
 use Rattle.gier_meaning.specs.Bodies.{Body, ProcedureBody, SwitchList}
 use Rattle.gier_meaning.specs.Tasks as copy
 use Rattle.gier_meaning.specs.Names as named
-use Rattle.gier_meaning.specs.Names.{picked, picked_from}
+use Rattle.gier_meaning.specs.Names.{switch_element, picked_from}
 use Rattle.gier_meaning.specs.Calls as called
 use Rattle.gier_meaning.specs.Calls.{standard_formals}
 use Rattle.gier_meaning.specs.Expressions as closed
-use Rattle.gier_env.specs.Env.{Env, Denoted, AnEntity, AProcedure, AFormalProcedure, AText, AStandard, AnActual, denoted, left_meaning}
+use Rattle.gier_env.specs.Env.{Env, Denoted, AnEntity, AProcedure, AFormalProcedure, AText, AStandard, AnActual, denotation, left_meaning}
 use Rattle.gier_env.specs.Closures.{Closure, what_of}
 use Rattle.gier_env.specs.Tasks as env
 use Rattle.gier_env.specs.Names as names
@@ -61,8 +61,8 @@ alone_handed_name k line (AStandard standard) = refl
 alone_handed_name k line (AnActual meant kind e env) = refl
 
 alone_handed_same : (env : Env) (k : Kind) (n : Name) (line : ℕ) → called.alone_handed k (close_name (used env) n) line
-    ≡ name_of (calls.alone_handed k n line (denoted env n))
-alone_handed_same env k (Identifier x) line = by (used env x) (denoted env (Identifier x)) (found_named env x)
+    ≡ name_of (calls.alone_handed k n line (denotation env n))
+alone_handed_same env k (Identifier x) line = by (used env x) (denotation env (Identifier x)) (found_named env x)
   where
     by : (u : Name) (o : Option Denoted) → u ≡ name_in (Identifier x) o → called.alone_handed k u line
         ≡ name_of (calls.alone_handed k (Identifier x) line o)
@@ -134,7 +134,7 @@ picked_from_same f zero (MoreExprs e es) P p q = q e
 picked_from_same f (suc i) (MoreExprs e es) P p q = picked_from_same f i es P p q
 
 picked_same : (f : ℕ → Name) (i : ℤ) (es : Exprs) (P : Option Expr → Option Expr → Type 0) → P None None
-    → ((e : Expr) → P (Some (close f e)) (Some e)) → P (picked i (close_all f es)) (picked i es)
+    → ((e : Expr) → P (Some (close f e)) (Some e)) → P (switch_element i (close_all f es)) (switch_element i es)
 picked_same f (pos zero) es P p q = p
 picked_same f (pos (suc i)) es P p q = picked_from_same f i es P p q
 picked_same f (negsuc i) es P p q = p
@@ -207,8 +207,8 @@ module _ (limit : ℕ) (next : copy.Next) (next1 : env.Next) (agrees : Agree nex
       ∙ destination_denoted d line live s
 
   picked_destination_same : (env : Env) (i : ℤ) (es : Exprs) (line : ℕ) (live : Live) (s : State Closure)
-      → named.picked_destination limit next (picked i (close_all (used env) es)) line live (state_of s)
-      ≡ carried same (names.picked_destination limit next1 (picked i es) env line live s)
+      → named.picked_destination limit next (switch_element i (close_all (used env) es)) line live (state_of s)
+      ≡ carried same (names.picked_destination limit next1 (switch_element i es) env line live s)
   picked_destination_same env i es line live s =
       picked_same (used env) i es (λ o1 o. named.picked_destination limit next o1 line live (state_of s)
       ≡ carried same (names.picked_destination limit next1 o env line live s))
@@ -380,22 +380,22 @@ module _ (limit : ℕ) (next : copy.Next) (next1 : env.Next) (agrees : Agree nex
         → closed.value limit next (close (used env) e) live (state_of s) ≡ carried same (here.value limit next1 e env live s)
     value_same (Number n line) env live s = refl
     value_same (Logical b line) env live s = refl
-    value_same (Alone n line) env live s = alone_named (close_name (used env) n) (denoted env n) (name_meets env n) env line live s
+    value_same (Alone n line) env live s = alone_named (close_name (used env) n) (denotation env n) (name_meets env n) env line live s
     value_same (Subscripted n line es) env live s =
         then_same same same _ _ _ _ (values_same es env live s) (λ xs s1.
-        then_same same same _ _ _ _ (element_same (close_name (used env) n) (denoted env n) (name_meets env n) xs line live s1)
+        then_same same same _ _ _ _ (element_same (close_name (used env) n) (denotation env n) (name_meets env n) xs line live s1)
         (λ a s2. ap (λ v. Gives v (state_of s2)) (value_found a s2)))
     value_same (Called n line es) env live s =
-        call_named (close_name (used env) n) (denoted env n) (name_meets env n) es env
+        call_named (close_name (used env) n) (denotation env n) (name_meets env n) es env
         (λ formals s1. here.handed limit next1 formals es env line live s1)
         (λ formals s1. closed.handed limit next formals (close_all (used env) es) line live s1)
         (λ formals s1. handed_same formals es env line live s1) line live s
     value_same (Bracketed line e) env live s = value_same e env live s
     value_same (Prefixed op line e) env live s = then_same same same _ _ _ _ (value_same e env live s)
-        (λ a s1. settled_same (prefixed op a) line live s1)
+        (λ a s1. settled_same (apply_prefix op a) line live s1)
     value_same (Joined e op line f) env live s =
         then_same same same _ _ _ _ (value_same e env live s) (λ a s1.
-        then_same same same _ _ _ _ (value_same f env live s1) (λ b s2. settled_same (joined op a b) line live s2))
+        then_same same same _ _ _ _ (value_same f env live s1) (λ b s2. settled_same (apply_operator op a b) line live s2))
     value_same (IfExpr line test e f) env live s =
         then_same same same _ _ _ _ (value_same test env live s) (λ a s1.
         either_same same (is_true a) (is_true a) s1 _ _ _ _ refl (λ s2. value_same e env live s2) (λ s2. value_same f env live s2))
@@ -423,10 +423,10 @@ module _ (limit : ℕ) (next : copy.Next) (next1 : env.Next) (agrees : Agree nex
 
   pub address_same : (e : Expr) (env : Env) (live : Live) (s : State Closure)
       → closed.address limit next (close (used env) e) live (state_of s) ≡ carried same (here.address limit next1 e env live s)
-  address_same (Alone n line) env live s = address_named (close_name (used env) n) (denoted env n) (name_meets env n) line live s
+  address_same (Alone n line) env live s = address_named (close_name (used env) n) (denotation env n) (name_meets env n) line live s
   address_same (Subscripted n line es) env live s =
       then_same same same _ _ _ _ (values_same es env live s)
-      (λ xs s1. element_same (close_name (used env) n) (denoted env n) (name_meets env n) xs line live s1)
+      (λ xs s1. element_same (close_name (used env) n) (denotation env n) (name_meets env n) xs line live s1)
   address_same (Number n line) env live s = refl
   address_same (Logical b line) env live s = refl
   address_same (Called n line es) env live s = refl
@@ -460,10 +460,10 @@ module _ (limit : ℕ) (next : copy.Next) (next1 : env.Next) (agrees : Agree nex
 
   pub destination_same : (e : Expr) (env : Env) (live : Live) (s : State Closure)
       → closed.destination limit next (close (used env) e) live (state_of s) ≡ carried same (here.destination limit next1 e env live s)
-  destination_same (Alone n line) env live s = destination_named (close_name (used env) n) (denoted env n) (name_meets env n) line live s
+  destination_same (Alone n line) env live s = destination_named (close_name (used env) n) (denotation env n) (name_meets env n) line live s
   destination_same (Subscripted n line es) env live s =
       then_same same same _ _ _ _ (values_same es env live s)
-      (λ xs s1. designator_named (close_name (used env) n) (denoted env n) (name_meets env n) xs line live s1)
+      (λ xs s1. designator_named (close_name (used env) n) (denotation env n) (name_meets env n) xs line live s1)
   destination_same (Bracketed line e) env live s = destination_same e env live s
   destination_same (IfExpr line test e f) env live s =
       then_same same same _ _ _ _ (value_same test env live s) (λ a s1.

@@ -4,11 +4,11 @@ use Rattle.std.specs.Prelude.{◌==◌, ◌||◌, if◌then◌else◌}
 use Rattle.gier_agree.specs.declared.kind.Kind.{Kind}
 use Rattle.gier_meaning.specs.Tree.{Name, Identifier, AnEntity, AProcedure, AFormalProcedure, AText, AStandard, AnActual, Expr, Number, Logical, Alone, Subscripted, Called, Bracketed, Prefixed, Joined, IfExpr, Quoted, Exprs, NoExprs, MoreExprs, Element, Once, StepUntil, While, Formal, Statement, Labelled, Dummy, Compound, Block, Assign, GoTo, CallOf, If, IfElse, For, Statements, NoStatements, MoreStatements, Declarations, NoDeclarations, Variables, Arrays, Switch, Procedure}
 use Rattle.gier_meaning.specs.Outcome.{is_among}
-use Rattle.gier_meaning.specs.Scopes.{identifier_in, identifiers_in, labels, all_labels, declared, of_block, identifiers_of, formal_identifiers, of_procedure}
+use Rattle.gier_meaning.specs.Scopes.{identifier_in, identifiers_in, labels, all_labels, declared_names, of_block, identifiers_of, formal_identifiers, of_procedure}
 use Rattle.gier_meaning.specs.What.{What, IsLabel, IsVariable, IsArray, IsSwitch, IsProcedure, kinds, formal_what, declared_by, specified_by, labels_by, asking_first, in_block, in_procedure}
 use Rattle.gier_meaning.specs.Room.{count, element_need, passed_need, formals_of, call_need, value_words, declared_words, need, need_behind, greatest_need, passed_needs, turn_need, turns_need, bounds_need, statement_need, statements_need, evaluation_room, block_room, procedure_room}
 use Rattle.gier_meaning.specs.Passing.{value_kind, alone_kind, meant_alone, expr_kind, actual_kind, actual_kinds, meant}
-use Rattle.gier_meaning.specs.Maps.{Map, hidden, hidden_from, hidden_in_body}
+use Rattle.gier_meaning.specs.Maps.{Map, map_without, hidden_from, hidden_in_body}
 use Rattle.gier_meaning.specs.Close.{close_name, close, close_all, close_left, close_lefts, close_element, close_elements, close_names, close_in, close_statements, close_declarations}
 use Rattle.gier_copy.proofs.Closing.{Stays, Proper, Keeps, keeps_left, keeps_right, keeps_hidden, proper_hidden, labels_stay, all_labels_stay, names_stay, identifier_stays, quantities_first, procedures_first, block_identifiers, among_append}
 
@@ -196,33 +196,33 @@ cover_nothing : Covers (λ x a. a) []
 cover_nothing = record { inside = λ x a b e. elim (true≢false (sym e)) [ ]; outside = λ x a e. refl }
 
 -- it asks the first, and the others where that does not say it
-declared_covers : (ds : Declarations) → Covers (declared_by ds) (identifiers_of (declared ds))
+declared_covers : (ds : Declarations) → Covers (declared_by ds) (identifiers_of (declared_names ds))
 declared_covers NoDeclarations = cover_nothing
 declared_covers (Variables kind ns ds) =
-    subst (Covers (declared_by (Variables kind ns ds))) (sym (quantities_first (identifiers_in ns) (declared ds)))
-    (first_covers (identifiers_in ns) (IsVariable kind) (declared_by ds) (identifiers_of (declared ds)) (declared_covers ds))
+    subst (Covers (declared_by (Variables kind ns ds))) (sym (quantities_first (identifiers_in ns) (declared_names ds)))
+    (first_covers (identifiers_in ns) (IsVariable kind) (declared_by ds) (identifiers_of (declared_names ds)) (declared_covers ds))
   where
     first_covers : (xs : List ℕ) (what : What) (more : ℕ → What → What) (ys : List ℕ) → Covers more ys
         → Covers (λ x a. if is_among x xs then what else more x a) (xs ++ ys)
     first_covers xs what more ys c = cover_two (λ x a. if is_among x xs then what else a) more xs ys (cover_one xs what) c
 declared_covers (Arrays kind line ns bounds ds) =
-    subst (Covers (declared_by (Arrays kind line ns bounds ds))) (sym (quantities_first (identifiers_in ns) (declared ds)))
+    subst (Covers (declared_by (Arrays kind line ns bounds ds))) (sym (quantities_first (identifiers_in ns) (declared_names ds)))
     (cover_two (λ x a. if is_among x (identifiers_in ns) then IsArray kind else a) (declared_by ds) (identifiers_in ns)
-    (identifiers_of (declared ds)) (cover_one (identifiers_in ns) (IsArray kind)) (declared_covers ds))
+    (identifiers_of (declared_names ds)) (cover_one (identifiers_in ns) (IsArray kind)) (declared_covers ds))
 declared_covers (Switch line n elements ds) =
-    subst (Covers (declared_by (Switch line n elements ds))) (sym (quantities_first (identifier_in n) (declared ds)))
+    subst (Covers (declared_by (Switch line n elements ds))) (sym (quantities_first (identifier_in n) (declared_names ds)))
     (cover_two (λ x a. if is_among x (identifier_in n) then IsSwitch else a) (declared_by ds) (identifier_in n)
-    (identifiers_of (declared ds)) (cover_one (identifier_in n) IsSwitch) (declared_covers ds))
+    (identifiers_of (declared_names ds)) (cover_one (identifier_in n) IsSwitch) (declared_covers ds))
 declared_covers (Procedure line kind own n formals body ds) =
-    subst (Covers (declared_by (Procedure line kind own n formals body ds))) (sym (procedures_first (identifier_in n) (declared ds)))
+    subst (Covers (declared_by (Procedure line kind own n formals body ds))) (sym (procedures_first (identifier_in n) (declared_names ds)))
     (cover_two (λ x a. if is_among x (identifier_in n) then IsProcedure kind (kinds formals) else a) (declared_by ds) (identifier_in n)
-    (identifiers_of (declared ds)) (cover_one (identifier_in n) (IsProcedure kind (kinds formals))) (declared_covers ds))
+    (identifiers_of (declared_names ds)) (cover_one (identifier_in n) (IsProcedure kind (kinds formals))) (declared_covers ds))
 
 block_covers : (ds : Declarations) (ss : Statements)
     → Covers (λ x a. declared_by ds x (labels_by (all_labels ss) x a)) (identifiers_of (of_block ds ss))
 block_covers ds ss =
     subst (Covers (λ x a. declared_by ds x (labels_by (all_labels ss) x a))) (sym (block_identifiers ds ss))
-    (cover_two (declared_by ds) (labels_by (all_labels ss)) (identifiers_of (declared ds)) (all_labels ss) (declared_covers ds)
+    (cover_two (declared_by ds) (labels_by (all_labels ss)) (identifiers_of (declared_names ds)) (all_labels ss) (declared_covers ds)
     (cover_labels (all_labels ss)))
 
 specified_covers : (formals : List Formal) → Covers (specified_by formals) (formal_identifiers formals)
@@ -268,7 +268,7 @@ mutual
       (ap₂ (λ x y. max x y) (statement_same m w v proper match s) (statement_same m w v proper match other))
   statement_same m w v proper match (For line variable place elements s) =
       let xs : List ℕ = labels s in
-      let m1 : Map = hidden xs m in
+      let m1 : Map = map_without xs m in
       ap (λ u. 1 + max (statement_need (asking_first (labels_by u) w) (close_in m1 s)) (turns_need w (close_elements m elements)))
       (labels_stay m1 s (keeps_hidden xs m.used))
       ∙ ap₂ (λ x y. 1 + max x y)
@@ -304,43 +304,43 @@ words_same m (Arrays kind line ns bounds ds) =
 words_same m (Switch line n elements ds) = words_same m ds
 words_same m (Procedure line kind own n formals body ds) = words_same m ds
 
-declared_by_same : (m : Map) (ds : Declarations) → Keeps m.used (identifiers_of (declared ds)) → declared_by (close_declarations m ds)
+declared_by_same : (m : Map) (ds : Declarations) → Keeps m.used (identifiers_of (declared_names ds)) → declared_by (close_declarations m ds)
     ≡ declared_by ds
 declared_by_same m NoDeclarations k = refl
 declared_by_same m (Variables kind ns ds) k =
-    let k1 = subst (Keeps m.used) (quantities_first (identifiers_in ns) (declared ds)) k in
+    let k1 = subst (Keeps m.used) (quantities_first (identifiers_in ns) (declared_names ds)) k in
     ap₂ (λ u F. λ x a. if is_among x u then IsVariable kind else F x a)
-    (names_stay m ns (keeps_left (identifiers_in ns) (identifiers_of (declared ds)) k1))
-    (declared_by_same m ds (keeps_right (identifiers_in ns) (identifiers_of (declared ds)) k1))
+    (names_stay m ns (keeps_left (identifiers_in ns) (identifiers_of (declared_names ds)) k1))
+    (declared_by_same m ds (keeps_right (identifiers_in ns) (identifiers_of (declared_names ds)) k1))
 declared_by_same m (Arrays kind line ns bounds ds) k =
-    let k1 = subst (Keeps m.used) (quantities_first (identifiers_in ns) (declared ds)) k in
+    let k1 = subst (Keeps m.used) (quantities_first (identifiers_in ns) (declared_names ds)) k in
     ap₂ (λ u F. λ x a. if is_among x u then IsArray kind else F x a)
-    (names_stay m ns (keeps_left (identifiers_in ns) (identifiers_of (declared ds)) k1))
-    (declared_by_same m ds (keeps_right (identifiers_in ns) (identifiers_of (declared ds)) k1))
+    (names_stay m ns (keeps_left (identifiers_in ns) (identifiers_of (declared_names ds)) k1))
+    (declared_by_same m ds (keeps_right (identifiers_in ns) (identifiers_of (declared_names ds)) k1))
 declared_by_same m (Switch line n elements ds) k =
-    let k1 = subst (Keeps m.used) (quantities_first (identifier_in n) (declared ds)) k in
+    let k1 = subst (Keeps m.used) (quantities_first (identifier_in n) (declared_names ds)) k in
     ap₂ (λ u F. λ x a. if is_among x u then IsSwitch else F x a)
-    (identifier_stays m.used n (keeps_left (identifier_in n) (identifiers_of (declared ds)) k1))
-    (declared_by_same m ds (keeps_right (identifier_in n) (identifiers_of (declared ds)) k1))
+    (identifier_stays m.used n (keeps_left (identifier_in n) (identifiers_of (declared_names ds)) k1))
+    (declared_by_same m ds (keeps_right (identifier_in n) (identifiers_of (declared_names ds)) k1))
 declared_by_same m (Procedure line kind own n formals body ds) k =
-    let k1 = subst (Keeps m.used) (procedures_first (identifier_in n) (declared ds)) k in
+    let k1 = subst (Keeps m.used) (procedures_first (identifier_in n) (declared_names ds)) k in
     ap₂ (λ u F. λ x a. if is_among x u then IsProcedure kind (kinds formals) else F x a)
-    (identifier_stays m.used n (keeps_left (identifier_in n) (identifiers_of (declared ds)) k1))
-    (declared_by_same m ds (keeps_right (identifier_in n) (identifiers_of (declared ds)) k1))
+    (identifier_stays m.used n (keeps_left (identifier_in n) (identifiers_of (declared_names ds)) k1))
+    (declared_by_same m ds (keeps_right (identifier_in n) (identifiers_of (declared_names ds)) k1))
 
 pub block_same : (m : Map) (w v : Name → What) → Proper m.used → Match m.used w v → (ds : Declarations) (ss : Statements)
-    → block_room w (close_declarations (hidden (identifiers_of (of_block ds ss)) m) ds)
-    (close_statements (hidden (identifiers_of (of_block ds ss)) m) ss) ≡ block_room v ds ss
+    → block_room w (close_declarations (map_without (identifiers_of (of_block ds ss)) m) ds)
+    (close_statements (map_without (identifiers_of (of_block ds ss)) m) ss) ≡ block_room v ds ss
 block_same m w v proper match ds ss =
     let xs : List ℕ = identifiers_of (of_block ds ss) in
-    let m1 : Map = hidden xs m in
+    let m1 : Map = map_without xs m in
     let ds1 : Declarations = close_declarations m1 ds in
     let ss1 : Statements = close_statements m1 ss in
     let k = subst (Keeps m1.used) (block_identifiers ds ss) (keeps_hidden xs m.used) in
     let asks : in_block ds1 ss1 w ≡ in_block ds ss w =
     ap₂ (λ F u. asking_first (λ x a. F x (labels_by u x a)) w)
-    (declared_by_same m1 ds (keeps_left (identifiers_of (declared ds)) (all_labels ss) k))
-    (all_labels_stay m1 ss (keeps_right (identifiers_of (declared ds)) (all_labels ss) k)) in
+    (declared_by_same m1 ds (keeps_left (identifiers_of (declared_names ds)) (all_labels ss) k))
+    (all_labels_stay m1 ss (keeps_right (identifiers_of (declared_names ds)) (all_labels ss) k)) in
     let match1 : Match m1.used (in_block ds ss w) (in_block ds ss v) =
     asking_same (λ x a. declared_by ds x (labels_by (all_labels ss) x a)) xs (block_covers ds ss) m.used w v proper match in
     let p = proper_hidden xs m.used proper in

@@ -9,16 +9,16 @@ use Rattle.gier_word.specs.Operations.{modulus_of}
 use Rattle.gier_tree.specs.declared.kind.Kind.{Kind as Standard}
 use Rattle.gier_tree.specs.declared.kind.Kind.TheVariants.{OutInteger, OutCr, OutChar, InInteger, InChar, Abs, Sign}
 use Rattle.gier_meaning.specs.Live.{Live, Shape, live_words}
-use Rattle.gier_meaning.specs.Entry.{Entry, NoStep, NoRoom, Enters, entry, taken}
+use Rattle.gier_meaning.specs.Entry.{Entry, NoStep, NoRoom, Enters, entry, live_after_taking}
 use Rattle.gier_meaning.specs.State.{Entity, Nothing, ACell, AnArray, ALabel, Kept, State, with_entity}
 use Rattle.gier_meaning.specs.Address.{Address, CellAt, ElementAt, value_in, element_in, value_at, cell_with, array_with, receives, receive}
 use Rattle.gier_meaning.specs.Arrays.{are_within}
 use Rattle.gier_meaning.specs.Outcome.{Outcome, Gives, Goes, Stops, then_do, either, caught, is_among}
 use Rattle.gier_meaning.specs.Accounts.{charged_by, charge, enters_by, enter, room_by, take_elements}
-use Rattle.gier_meaning.specs.Standard.{settled, prints, reads, takes, standard_alone, standard_of}
+use Rattle.gier_meaning.specs.Standard.{value_or_alarm, prints, reads, takes, standard_alone, standard_of}
 use Rattle.gier_meaning.specs.Destinations.{Destination, To, Undefined, goes_to}
 use Rattle.gier_meaning.specs.Entities.{cell_value, cell_address, label_at, element_address}
-use Rattle.gier_meaning.specs.Turns.{labels_made}
+use Rattle.gier_meaning.specs.TurnLabels.{labels_made}
 use Rattle.gier_meaning.specs.Bodies.{Body}
 use Rattle.gier_env.specs.Closures.{Closure}
 use Rattle.gier_copy.proofs.Images.{entity_of, state_of, carried, same}
@@ -154,10 +154,10 @@ room_by_same (Some most) n line live s = refl
 
 pub take_same : (limit n line : ℕ) (live : Live) (s : State Closure) → take_elements limit n line live (state_of s)
     ≡ carried same (take_elements limit n line live s)
-take_same limit n line live s = room_by_same (taken limit s.most (live_words live) n) n line live s
+take_same limit n line live s = room_by_same (live_after_taking limit s.most (live_words live) n) n line live s
 
-pub settled_same : (r : Result ℤ Spoil) (line : ℕ) (live : Live) (s : State Closure) → settled r line live (state_of s)
-    ≡ carried same (settled r line live s)
+pub settled_same : (r : Result ℤ Spoil) (line : ℕ) (live : Live) (s : State Closure) → value_or_alarm r line live (state_of s)
+    ≡ carried same (value_or_alarm r line live s)
 settled_same (Ok v) line live s = refl
 settled_same (Err spoil) line live s = refl
 

@@ -4,7 +4,7 @@ use Rattle.std.specs.List.{slice_get}
 use Rattle.std.proofs.lemmas.Bool.{cases_eq}
 use Rattle.std.proofs.lemmas.List.{map-append, length-map, ext_get_or, get_or-map, length-set, get_or-set_same, get_or-set_other, get_or_append_left, get_or_at, get_or_past}
 use Rattle.std.proofs.lemmas.Option.{slice_get-get_or}
-use Rattle.gier_drum.specs.Pages.{page_at, pages, taken, IsIndex}
+use Rattle.gier_drum.specs.Pages.{page_at, pages, slots_in_use, IsIndex}
 
 -- a longer index
 
@@ -22,14 +22,14 @@ get_or-grown [] (suc n) (suc t) = get_or-grown [] n t ∙ get_or_past [] t 0 (om
 get_or-grown (x ∷ index) n zero = refl
 get_or-grown (x ∷ index) n (suc t) = get_or-grown index n t
 
-all_zero : (n : ℕ) → taken (replicate n 0) ≡ 0
+all_zero : (n : ℕ) → slots_in_use (replicate n 0) ≡ 0
 all_zero zero = refl
 all_zero (suc n) = all_zero n
 
-taken-grown : (n : ℕ) (index : List ℕ) → taken (index ++ replicate n 0) ≡ taken index
-taken-grown n [] = all_zero n
-taken-grown n (zero ∷ index) = taken-grown n index
-taken-grown n (suc m ∷ index) = ap suc (taken-grown n index)
+slots_in_use-grown : (n : ℕ) (index : List ℕ) → slots_in_use (index ++ replicate n 0) ≡ slots_in_use index
+slots_in_use-grown n [] = all_zero n
+slots_in_use-grown n (zero ∷ index) = slots_in_use-grown n index
+slots_in_use-grown n (suc m ∷ index) = ap suc (slots_in_use-grown n index)
 
 -- a place past the end has no slot
 pub within_anywhere : (index : List ℕ) (slots : List (List ℕ)) → IsIndex index slots → (t : ℕ) → get_or index t 0 ≤ length slots
@@ -51,28 +51,28 @@ IsIndex-grown index slots n ok = record {
   within = λ t below. rw (get_or-grown index n t) (within_anywhere index slots ok t);
   apart = λ t u bt bu. rw (get_or-grown index n t, get_or-grown index n u) (λ same some.
       ok.apart t u (in_index index t some) (in_index index u (omega (arith, same, some))) same some);
-  count = ok.count ∙ sym (taken-grown n index);
+  count = ok.count ∙ sym (slots_in_use-grown n index);
 }
 
 -- how many places have a slot
 
-pub taken-set : (index : List ℕ) (t n : ℕ) → t < length index → get_or index t 0 ≡ 0 → taken (set index t (suc n)) ≡ suc (taken index)
-taken-set [] t n lt is = absurd (omega arith)
-taken-set (zero ∷ index) zero n lt is = refl
-taken-set (suc m ∷ index) zero n lt is = absurd (omega arith)
-taken-set (zero ∷ index) (suc t) n lt is = taken-set index t n (omega arith) is
-taken-set (suc m ∷ index) (suc t) n lt is = ap suc (taken-set index t n (omega arith) is)
+pub slots_in_use-set : (index : List ℕ) (t n : ℕ) → t < length index → get_or index t 0 ≡ 0 → slots_in_use (set index t (suc n)) ≡ suc (slots_in_use index)
+slots_in_use-set [] t n lt is = absurd (omega arith)
+slots_in_use-set (zero ∷ index) zero n lt is = refl
+slots_in_use-set (suc m ∷ index) zero n lt is = absurd (omega arith)
+slots_in_use-set (zero ∷ index) (suc t) n lt is = slots_in_use-set index t n (omega arith) is
+slots_in_use-set (suc m ∷ index) (suc t) n lt is = ap suc (slots_in_use-set index t n (omega arith) is)
 
-pub taken_le : (index : List ℕ) → taken index ≤ length index
+pub taken_le : (index : List ℕ) → slots_in_use index ≤ length index
 taken_le [] = omega arith
 taken_le (zero ∷ index) = omega (arith, taken_le index)
 taken_le (suc n ∷ index) = omega (arith, taken_le index)
 
-pub taken_lt : (index : List ℕ) (t : ℕ) → t < length index → get_or index t 0 ≡ 0 → taken index < length index
+pub taken_lt : (index : List ℕ) (t : ℕ) → t < length index → get_or index t 0 ≡ 0 → slots_in_use index < length index
 taken_lt [] t lt is = absurd (omega arith)
 taken_lt (zero ∷ index) t lt is = omega (arith, taken_le index)
 taken_lt (suc m ∷ index) zero lt is = absurd (omega arith)
-taken_lt (suc m ∷ index) (suc t) lt is = let h : taken index < length index = taken_lt index t (omega arith) is in omega arith
+taken_lt (suc m ∷ index) (suc t) lt is = let h : slots_in_use index < length index = taken_lt index t (omega arith) is in omega arith
 
 -- reading a place
 
@@ -141,7 +141,7 @@ pub IsIndex-new : (index : List ℕ) (slots : List (List ℕ)) (t : ℕ) (x : Li
 IsIndex-new index slots t x ok lt is = record {
   within = λ u below. new_within index slots t x ok u (omega (arith, length-set index t (suc (length slots))));
   apart = λ u v bu bv. new_apart index slots t ok u v (omega (arith, length-set index t (suc (length slots)))) (omega (arith, length-set index t (suc (length slots))));
-  count = length-append slots (x ∷ []) ∙ (omega (arith, taken-set index t (length slots) lt is, ok.count));
+  count = length-append slots (x ∷ []) ∙ (omega (arith, slots_in_use-set index t (length slots) lt is, ok.count));
 }
 
 -- another page in a slot

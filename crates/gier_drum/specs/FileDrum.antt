@@ -2,7 +2,7 @@
 use Rattle.std.specs.Prelude.{◌≡◌, ℕ, Option, Result, is_ok, if◌then◌else◌}
 use Rattle.std.specs.declared.fs.File.{File}
 use Rattle.gier_drum.specs.declared.file_drum.FileDrum.{FileDrum}
-use Rattle.gier_drum.specs.Log.{counted}
+use Rattle.gier_drum.specs.Log.{saturating_next}
 
 abbrev pub file_of : FileDrum → Option File
 file_of drum = drum.file
@@ -15,4 +15,4 @@ failed_of drum = drum.failed
 
 -- each failure is counted, and nothing else
 abbrev pub CountsFault : {T E : Type 0} → ℕ → Result T E → ℕ → Type 0
-CountsFault old result new = new ≡ (if is_ok result then old else counted old)
+CountsFault old result new = new ≡ (if is_ok result then old else saturating_next old)

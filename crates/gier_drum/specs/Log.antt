@@ -8,9 +8,9 @@ pub record Log : Type 0 where
   pub refused : ℕ
 
 -- the entries, where there is a journal
-abbrev pub told : Option Log → Option (List Entry)
-told None = None
-told (Some log) = Some log.entries
+abbrev pub journal_entries : Option Log → Option (List Entry)
+journal_entries None = None
+journal_entries (Some log) = Some log.entries
 
 -- none where there is no journal
 abbrev pub entries_of : Option Log → List Entry
@@ -26,8 +26,8 @@ is_full None = false
 is_full (Some log) = nat_le log.limit (length log.entries)
 
 -- one more, unless a count of 64 bits stands at its last value
-abbrev pub counted : ℕ → ℕ
-counted n = if nat_lt n 18446744073709551615 then n + 1 else n
+abbrev pub saturating_next : ℕ → ℕ
+saturating_next n = if nat_lt n 18446744073709551615 then n + 1 else n
 
 abbrev pub with_entry : Option Log → Entry → Option Log
 with_entry None entry = None
@@ -35,7 +35,7 @@ with_entry (Some log) entry = Some (record log { entries = log.entries ++ entry 
 
 abbrev pub with_refusal : Option Log → Option Log
 with_refusal None = None
-with_refusal (Some log) = Some (record log { refused = counted log.refused })
+with_refusal (Some log) = Some (record log { refused = saturating_next log.refused })
 
 -- a full journal refuses the entry and counts that; no other does
 abbrev pub Notes : {T E : Type 0} → Option Log → Entry → Result T E → Option Log → Type 0

@@ -12,16 +12,16 @@ abbrev pub pages : List ℕ → List ℕ → List (List ℕ) → List (List ℕ)
 pages blank index slots = map (page_at blank slots) index
 
 -- how many places have a slot
-abbrev pub taken : List ℕ → ℕ
-taken [] = 0
-taken (zero ∷ index) = taken index
-taken (suc n ∷ index) = suc (taken index)
+abbrev pub slots_in_use : List ℕ → ℕ
+slots_in_use [] = 0
+slots_in_use (zero ∷ index) = slots_in_use index
+slots_in_use (suc n ∷ index) = suc (slots_in_use index)
 
 -- no two places have one slot, and no slot is left over
 pub record IsIndex (index : List ℕ) (slots : List (List ℕ)) : Type 0 where
   pub within : (t : ℕ) → t < length index → slice_index index t ≤ length slots
   pub apart : (t u : ℕ) → t < length index → u < length index → slice_index index t ≡ slice_index index u → 0 < slice_index index t → t ≡ u
-  pub count : length slots ≡ taken index
+  pub count : length slots ≡ slots_in_use index
 
 -- the tracks of a drum in memory
 pub record IsStored (index : List ℕ) (slots : List (List ℕ)) (capacity : ℕ) : Type 0 where

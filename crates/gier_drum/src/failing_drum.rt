@@ -1,6 +1,6 @@
 // A drum in memory that fails at calls that are named beforehand.
 ghost use Rattle.std.specs.Prelude.{◌≡◌, ◌<◌, ◌≤◌, ◌^◌, [], Some, OnOk, IfOk, All, MatchBool, length};
-ghost use Rattle.gier_drum.specs.Log.{told, refusals, new_log, counted};
+ghost use Rattle.gier_drum.specs.Log.{journal_entries, refusals, new_log, saturating_next};
 ghost use Rattle.gier_drum.specs.Memory.{Reads, Writes, MakesRoom};
 ghost use Rattle.gier_drum.specs.declared.drum.RoomFault.TheVariants.{Failed as DrumFailed};
 
@@ -67,15 +67,15 @@ impl Drum for FailingDrum {
 
     ghost tracks = { λ d. Some (plan_of d).memory.tracks };
 
-    ghost journal = { λ d. told (plan_of d).memory.log };
+    ghost journal = { λ d. journal_entries (plan_of d).memory.log };
 
     ghost faults = { λ d. fault_count (plan_of d) };
 
     ghost bounded = { λ drum. few-bounded drum.inner.stored };
 
-    ghost sized = { λ drum all told. length-told drum.inner.tracks all told };
+    ghost sized = { λ drum all journal_entries. length-told drum.inner.tracks all journal_entries };
 
-    ghost shaped = { λ drum all told. shape-told drum.inner.tracks all told drum.inner.stored };
+    ghost shaped = { λ drum all journal_entries. shape-told drum.inner.tracks all journal_entries drum.inner.stored };
 
     fn make_room(&mut self, wanted: u32) -> Result<(), RoomFault>
         ensures { FailsOrMakesRoom (plan_of self.old) wanted result (plan_of self.new) }

@@ -1,6 +1,6 @@
 // A drum in memory, which tells its tracks, and its journal where it keeps one.
 ghost use Rattle.std.specs.Prelude.{◌≡◌, ◌<◌, ◌≤◌, ◌^◌, [], Some, OnOk, IfOk, All, length};
-ghost use Rattle.gier_drum.specs.Log.{told, refusals, entries_of, new_log, Notes};
+ghost use Rattle.gier_drum.specs.Log.{journal_entries, refusals, entries_of, new_log, Notes};
 ghost use Rattle.gier_drum.specs.Memory.{AreTracks, Reads, Writes, MakesRoom};
 
 use crate::journal::Journal;
@@ -67,15 +67,15 @@ impl Drum for MemDrum {
 
     ghost tracks = { λ d. Some d.tracks };
 
-    ghost journal = { λ d. told d.journal };
+    ghost journal = { λ d. journal_entries d.journal };
 
     ghost faults = { λ d. refusals d.journal };
 
     ghost bounded = { λ drum. few-bounded drum.stored };
 
-    ghost sized = { λ drum all told. length-told drum.tracks all told };
+    ghost sized = { λ drum all journal_entries. length-told drum.tracks all journal_entries };
 
-    ghost shaped = { λ drum all told. shape-told drum.tracks all told drum.stored };
+    ghost shaped = { λ drum all journal_entries. shape-told drum.tracks all journal_entries drum.stored };
 
     fn make_room(&mut self, wanted: u32) -> Result<(), RoomFault>
         ensures { MakesRoom (memory_of self.old) wanted result (memory_of self.new) }

@@ -9,14 +9,14 @@ use Rattle.gier_meaning.specs.Tree.{AsExpression, Alone, Identifier, Name, Forma
 use Rattle.gier_meaning.specs.Live.{Live}
 use Rattle.gier_meaning.specs.State.{Pair, ACell, AnArray, Kept, Entity, State, with_entity, given_out}
 use Rattle.gier_meaning.specs.Address.{CellAt, value_at}
-use Rattle.gier_meaning.specs.Arrays.{paired, are_bounds, elements_of, no_elements}
+use Rattle.gier_meaning.specs.Arrays.{bound_pairs, are_bounds, elements_of, no_elements}
 use Rattle.gier_meaning.specs.Outcome.{Gives, Alarmed, Finished, then_do, stops, either, caught}
 use Rattle.gier_meaning.specs.Accounts.{take_elements}
-use Rattle.gier_meaning.specs.Scopes.{declared, of_block, quantities, labels, all_labels}
-use Rattle.gier_meaning.specs.Turns.{entities_from, labels_made}
+use Rattle.gier_meaning.specs.Scopes.{declared_names, of_block, quantities, labels, all_labels}
+use Rattle.gier_meaning.specs.TurnLabels.{entities_from, labels_made}
 use Rattle.gier_meaning.specs.Bodies.{ProcedureBody, SwitchList}
-use Rattle.gier_env.specs.Env.{Env, Inside, Bindings, NoBindings, Means, Returns, Outermost, Denoted, AnActual, AnEntity, AProcedure, denoted, numbered}
-use Rattle.gier_env.specs.Doing.{Doing}
+use Rattle.gier_env.specs.Env.{Env, Inside, Bindings, NoBindings, Means, Returns, Outermost, Denoted, AnActual, AnEntity, AProcedure, denotation, with_entities}
+use Rattle.gier_env.specs.Computation.{Computation}
 use Rattle.gier_env.specs.Closures.{Closure}
 use Rattle.gier_env.specs.Tasks.{Passed, AValue, AMeaning, Next}
 use Rattle.gier_env.specs.Expressions.{values}
@@ -29,7 +29,7 @@ entity_of _ = 0
 
 -- the entity in a declaring place
 abbrev pub entity_in : Env → Name → ℕ
-entity_in env name = entity_of (denoted env name)
+entity_in env name = entity_of (denotation env name)
 
 -- each of these names gets such an entity
 abbrev pub all_made : Env → List Name → Entity Closure → State Closure → State Closure
@@ -48,39 +48,39 @@ made env (Procedure line kind own name formals body ds) s =
 
 module _ (limit : ℕ) where
   -- the arrays of a segment take their elements, which are 0 or false
-  abbrev pub arrays_taken : Env → Kind → List Name → List Pair → (line : ℕ) → Doing Live
+  abbrev pub arrays_taken : Env → Kind → List Name → List Pair → (line : ℕ) → Computation Live
   arrays_taken env kind [] pairs line live s = Gives live s
   arrays_taken env kind (name ∷ names) pairs line live s =
       then_do (take_elements limit (elements_of pairs) line live s) (λ live1 s1.
       arrays_taken env kind names pairs line live1 (with_entity (entity_in env name) (AnArray kind pairs no_elements) s1))
 
-  abbrev pub segment : Env → Kind → List Name → List Pair → (line : ℕ) → Doing Live
+  abbrev pub segment : Env → Kind → List Name → List Pair → (line : ℕ) → Computation Live
   segment env kind names pairs line live s =
       either (are_bounds pairs) s
       (λ s1. arrays_taken env kind names pairs line live s1)
       (λ s1. stops (Alarmed Bounds) line live s1)
 
   -- array segments in source order, each with its bounds from left to right (Report 5.2.4)
-  abbrev pub arrays : Next → Declarations → Env → Doing Live
+  abbrev pub arrays : Next → Declarations → Env → Computation Live
   arrays next NoDeclarations env live s = Gives live s
   arrays next (Variables kind names ds) env live s = arrays next ds env live s
   arrays next (Arrays kind line names bounds ds) env live s =
       then_do (values limit next bounds env live s) (λ found s1.
-      then_do (segment env kind names (paired found) line live s1) (λ live1 s2. arrays next ds env live1 s2))
+      then_do (segment env kind names (bound_pairs found) line live s1) (λ live1 s2. arrays next ds env live1 s2))
   arrays next (Switch line name elements ds) env live s = arrays next ds env live s
   arrays next (Procedure line kind own name formals body ds) env live s = arrays next ds env live s
 
   -- a block in its own activation, with the entities of its labels
-  abbrev pub activated_block : Next → Declarations → Statements → (own : List ℕ) → Env → Doing Finished
+  abbrev pub activated_block : Next → Declarations → Statements → (own : List ℕ) → Env → Computation Finished
   activated_block next ds ss own env live s =
       then_do (arrays next ds env live (made env ds s)) (λ live1 s1.
       caught own (λ label s2. next.rest label own ss env live1 s2) (run_all limit next ss env live1 s1))
 
-  abbrev pub entered_block : Next → Declarations → Statements → Env → Doing Finished
+  abbrev pub entered_block : Next → Declarations → Statements → Env → Computation Finished
   entered_block next ds ss env live s =
-      let first : ℕ = s.fresh + length (declared ds) in
+      let first : ℕ = s.fresh + length (declared_names ds) in
       let own : List ℕ = entities_from first (all_labels ss) in
-      activated_block next ds ss own (Inside (numbered s.fresh (of_block ds ss) NoBindings) env) live
+      activated_block next ds ss own (Inside (with_entities s.fresh (of_block ds ss) NoBindings) env) live
       (given_out (length (of_block ds ss)) (labels_made own s))
 
 -- in the place of an actual that is missing, which is so in no call of a tree without faults
@@ -106,35 +106,35 @@ formals_made (formal ∷ formals) (AMeaning meaning ∷ passed) s = formals_made
 
 module _ (limit : ℕ) where
   -- the one statement of a scope in its activation, with the entities of its labels
-  abbrev pub activated_body : Next → Statement → (own : List ℕ) → Env → Doing Finished
+  abbrev pub activated_body : Next → Statement → (own : List ℕ) → Env → Computation Finished
   activated_body next body own env live s =
       caught own
       (λ label s1. next.rest label own (MoreStatements body NoStatements) env live s1)
       (run limit next body env live (given_out (length own) (labels_made own s)))
 
   -- the body of a procedure; `formals` puts what the formals mean in front of the labels
-  abbrev pub body_run : Next → (Bindings → Bindings) → Bindings → Statement → (home : Env) → Doing Finished
+  abbrev pub body_run : Next → (Bindings → Bindings) → Bindings → Statement → (home : Env) → Computation Finished
   body_run next formals result body home live s =
       activated_body next body (entities_from s.fresh (labels body))
-      (Inside (formals (numbered s.fresh (quantities (labels body)) result)) home) live s
+      (Inside (formals (with_entities s.fresh (quantities (labels body)) result)) home) live s
 
   -- a procedure without type has no value; 0 stands for none
-  abbrev pub proper_run : Next → (Bindings → Bindings) → Statement → (home : Env) → Doing ℤ
+  abbrev pub proper_run : Next → (Bindings → Bindings) → Statement → (home : Env) → Computation ℤ
   proper_run next formals body home live s =
       then_do (body_run next formals NoBindings body home live s) (λ done s1. Gives (pos 0) s1)
 
   -- a function's value is what its own cell has in the end (Report 5.4.4)
-  abbrev pub function_run : Next → (own cell : ℕ) → (Bindings → Bindings) → Statement → (home : Env) → Doing ℤ
+  abbrev pub function_run : Next → (own cell : ℕ) → (Bindings → Bindings) → Statement → (home : Env) → Computation ℤ
   function_run next own cell formals body home live s =
       then_do (body_run next formals (Returns own cell NoBindings) body home live s) (λ done s1. Gives (value_at (CellAt cell) s1) s1)
 
-  abbrev pub procedure_run : Next → (own : ℕ) → Kind → (Bindings → Bindings) → Statement → (home : Env) → Doing ℤ
+  abbrev pub procedure_run : Next → (own : ℕ) → Kind → (Bindings → Bindings) → Statement → (home : Env) → Computation ℤ
   procedure_run next own kind.IntegerProcedure formals body home live s =
       function_run next own s.fresh formals body home live (given_out 1 (with_entity s.fresh (ACell kind.Integer (pos 0)) s))
   procedure_run next own kind.BooleanProcedure formals body home live s =
       function_run next own s.fresh formals body home live (given_out 1 (with_entity s.fresh (ACell kind.Boolean (pos 0)) s))
   procedure_run next own _ formals body home live s = proper_run next formals body home live s
 
-  abbrev pub entered_procedure : Next → (own : ℕ) → Kind → List Formal → Statement → (home : Env) → List Passed → Doing ℤ
+  abbrev pub entered_procedure : Next → (own : ℕ) → Kind → List Formal → Statement → (home : Env) → List Passed → Computation ℤ
   entered_procedure next own kind formals body home passed live s =
       procedure_run next own kind (formals_bound s.fresh formals passed) body home live (formals_made formals passed s)

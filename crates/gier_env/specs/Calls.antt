@@ -17,8 +17,8 @@ use Rattle.gier_meaning.specs.Room.{procedure_room}
 use Rattle.gier_meaning.specs.Passing.{is_by_value, agree, actual_kinds, meant}
 use Rattle.gier_meaning.specs.Bodies.{Body, ProcedureBody, SwitchList}
 use Rattle.gier_meaning.specs.Calls.{standard_formals}
-use Rattle.gier_env.specs.Env.{Env, Outermost, Denoted, AProcedure, AFormalProcedure, AText, AStandard, AnActual, denoted}
-use Rattle.gier_env.specs.Doing.{Doing}
+use Rattle.gier_env.specs.Env.{Env, Outermost, Denoted, AProcedure, AFormalProcedure, AText, AStandard, AnActual, denotation}
+use Rattle.gier_env.specs.Computation.{Computation}
 use Rattle.gier_env.specs.Closures.{Closure, what_of}
 use Rattle.gier_env.specs.Tasks.{Passed, AValue, AMeaning, Next}
 use Rattle.gier_env.specs.Names.{value_of}
@@ -30,7 +30,7 @@ alone_handed kind name line (Some meaning) = meaning
 
 -- an actual that is handed over as it is: an array, a switch, a string
 abbrev pub as_it_is : Env → Kind → Expr → Denoted
-as_it_is env kind (Alone name line) = alone_handed kind name line (denoted env name)
+as_it_is env kind (Alone name line) = alone_handed kind name line (denotation env name)
 as_it_is env kind (Quoted bytes line) = AText bytes
 as_it_is env kind e = AnActual AsExpression kind e env
 
@@ -56,38 +56,38 @@ passed_meanings s env (formal ∷ formals) NoExprs = []
 passed_meanings s env (formal ∷ formals) (MoreExprs e es) =
     passed_meaning s env (wanted_by formal) e ∷ passed_meanings s env formals es
 
-abbrev pub standard_passed : Standard → List Passed → (line : ℕ) → Doing ℤ
+abbrev pub standard_passed : Standard → List Passed → (line : ℕ) → Computation ℤ
 standard_passed standard (AValue value ∷ []) line live s = standard_of standard value line live s
 standard_passed OutText (AMeaning (AText bytes) ∷ []) line live s = prints_text bytes s
 standard_passed _ _ line live s = senseless line live s
 
-abbrev pub standard_call : Standard → Exprs → (List Kind → State Closure → Outcome Closure (List Passed)) → (line : ℕ) → Doing ℤ
+abbrev pub standard_call : Standard → Exprs → (List Kind → State Closure → Outcome Closure (List Passed)) → (line : ℕ) → Computation ℤ
 standard_call standard NoExprs handed line live s = standard_alone standard line live s
 standard_call standard (MoreExprs e es) handed line live s =
     then_do (handed (standard_formals standard) s) (λ passed s1. standard_passed standard passed line live s1)
 
 module _ (limit : ℕ) where
   -- a procedure is activated; what encloses it is where it is declared
-  abbrev pub activation : Next → (own : ℕ) → Kind → List Formal → Statement → Env → List Passed → (line : ℕ) → Doing ℤ
+  abbrev pub activation : Next → (own : ℕ) → Kind → List Formal → Statement → Env → List Passed → (line : ℕ) → Computation ℤ
   activation next own kind formals body home passed line live s =
       enter limit (InProcedure line) (procedure_room (what_of home s) kind formals body) line live s
       (λ live1 s1. next.procedure own kind formals body home passed live1 s1)
 
   -- what is meant comes to this for a formal: its value, or itself
-  abbrev pub evaluated_one : Next → Kind → Denoted → (line : ℕ) → Doing Passed
+  abbrev pub evaluated_one : Next → Kind → Denoted → (line : ℕ) → Computation Passed
   evaluated_one next formal meaning line live s =
       either (is_by_value formal) s
       (λ s1. then_do (value_of limit next (Some meaning) line live s1) (λ value s2. Gives (AValue value) s2))
       (λ s1. Gives (AMeaning meaning) s1)
 
-  abbrev pub evaluated : Next → List Kind → List Denoted → (line : ℕ) → Doing (List Passed)
+  abbrev pub evaluated : Next → List Kind → List Denoted → (line : ℕ) → Computation (List Passed)
   evaluated next [] meanings line live s = Gives [] s
   evaluated next (formal ∷ formals) [] line live s = Gives [] s
   evaluated next (formal ∷ formals) (meaning ∷ meanings) line live s =
       then_do (evaluated_one next formal meaning line live s) (λ passed s1.
       then_do (evaluated next formals meanings line live s1) (λ rest s2. Gives (passed ∷ rest) s2))
 
-  abbrev pub formal_body_call : Next → Body → (home : Env) → Exprs → (here : Env) → (line : ℕ) → Doing ℤ
+  abbrev pub formal_body_call : Next → Body → (home : Env) → Exprs → (here : Env) → (line : ℕ) → Computation ℤ
   formal_body_call next (ProcedureBody own kind formals body) home actuals here line live s =
       either (agree (kinds formals) (actual_kinds (what_of here s) actuals)) s
       (λ s1. then_do (evaluated next (kinds formals) (passed_meanings s1 here (kinds formals) actuals) line live s1)
@@ -95,22 +95,22 @@ module _ (limit : ℕ) where
       (λ s1. stops (Alarmed Parameters) line live s1)
   formal_body_call next (SwitchList elements) home actuals here line live s = senseless line live s
 
-  abbrev pub formal_call : Next → Entity Closure → Exprs → (here : Env) → (line : ℕ) → Doing ℤ
+  abbrev pub formal_call : Next → Entity Closure → Exprs → (here : Env) → (line : ℕ) → Computation ℤ
   formal_call next (Kept closure) actuals here line live s =
       formal_body_call next closure.body closure.home actuals here line live s
   formal_call next _ actuals here line live s = senseless line live s
 
-  abbrev pub declared_body_call : Next → Body → (home : Env) → (List Kind → State Closure → Outcome Closure (List Passed)) → (line : ℕ) → Doing ℤ
+  abbrev pub declared_body_call : Next → Body → (home : Env) → (List Kind → State Closure → Outcome Closure (List Passed)) → (line : ℕ) → Computation ℤ
   declared_body_call next (ProcedureBody own kind formals body) home handed line live s =
       then_do (handed (kinds formals) s) (λ passed s1. activation next own kind formals body home passed line live s1)
   declared_body_call next (SwitchList elements) home handed line live s = senseless line live s
 
   -- `handed` hands the actuals over to formals of these kinds
-  abbrev pub declared_call : Next → Entity Closure → (List Kind → State Closure → Outcome Closure (List Passed)) → (line : ℕ) → Doing ℤ
+  abbrev pub declared_call : Next → Entity Closure → (List Kind → State Closure → Outcome Closure (List Passed)) → (line : ℕ) → Computation ℤ
   declared_call next (Kept closure) handed line live s = declared_body_call next closure.body closure.home handed line live s
   declared_call next _ handed line live s = senseless line live s
 
-  abbrev pub call : Next → Option Denoted → Exprs → (here : Env) → (List Kind → State Closure → Outcome Closure (List Passed)) → (line : ℕ) → Doing ℤ
+  abbrev pub call : Next → Option Denoted → Exprs → (here : Env) → (List Kind → State Closure → Outcome Closure (List Passed)) → (line : ℕ) → Computation ℤ
   call next (Some (AProcedure n)) actuals here handed line live s = declared_call next (s.store n) handed line live s
   call next (Some (AFormalProcedure n)) actuals here handed line live s = formal_call next (s.store n) actuals here line live s
   call next (Some (AStandard standard)) actuals here handed line live s = standard_call standard actuals handed line live s

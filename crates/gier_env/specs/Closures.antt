@@ -4,7 +4,7 @@ use Rattle.gier_meaning.specs.Tree.{Name}
 use Rattle.gier_meaning.specs.State.{Entity, State}
 use Rattle.gier_meaning.specs.What.{What, Unknown, IsString, IsStandard}
 use Rattle.gier_meaning.specs.Bodies.{Body, body_what, entity_what, as_formal, by_name_what}
-use Rattle.gier_env.specs.Env.{Env, Denoted, AnEntity, AProcedure, AFormalProcedure, AText, AStandard, AnActual, denoted}
+use Rattle.gier_env.specs.Env.{Env, Denoted, AnEntity, AProcedure, AFormalProcedure, AText, AStandard, AnActual, denotation}
 
 -- a declaration with the activation in which it stands
 pub record Closure : Type 0 where
@@ -24,7 +24,7 @@ denoted_what store (AnActual meant kind e env) = by_name_what meant kind
 
 abbrev pub option_what : (ℕ → Entity Closure) → Option Denoted → What
 option_what store None = Unknown
-option_what store (Some denoted) = denoted_what store denoted
+option_what store (Some denotation) = denoted_what store denotation
 
 abbrev pub what_of : Env → State Closure → Name → What
-what_of env s name = option_what s.store (denoted env name)
+what_of env s name = option_what s.store (denotation env name)

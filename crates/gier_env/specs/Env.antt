@@ -29,7 +29,7 @@ mutual
 
 abbrev pub found_in : Bindings → ℕ → Option Denoted → Option Denoted
 found_in NoBindings x outer = outer
-found_in (Means y denoted bindings) x outer = if x == y then Some denoted else found_in bindings x outer
+found_in (Means y denotation bindings) x outer = if x == y then Some denotation else found_in bindings x outer
 found_in (Returns y cell bindings) x outer = found_in bindings x outer
 
 -- what an identifier means: by the innermost activation that declares it; None where none does
@@ -39,13 +39,13 @@ found (Inside bindings env) x = found_in bindings x (found env x)
 
 abbrev pub assigned_in : Bindings → ℕ → Option Denoted → Option Denoted
 assigned_in NoBindings x outer = outer
-assigned_in (Means y denoted bindings) x outer = if x == y then Some denoted else assigned_in bindings x outer
+assigned_in (Means y denotation bindings) x outer = if x == y then Some denotation else assigned_in bindings x outer
 assigned_in (Returns y cell bindings) x outer = if x == y then Some (AnEntity cell) else assigned_in bindings x outer
 
 -- the same of a left part, where a function's identifier means the cell of its value
-abbrev pub assigned : Env → ℕ → Option Denoted
-assigned Outermost x = None
-assigned (Inside bindings env) x = assigned_in bindings x (assigned env x)
+abbrev pub denotation_as_left_part : Env → ℕ → Option Denoted
+denotation_as_left_part Outermost x = None
+denotation_as_left_part (Inside bindings env) x = assigned_in bindings x (denotation_as_left_part env x)
 
 -- of a name in a tree. A tree keeps its identifiers here; any other name would mean what it is
 abbrev pub denoted_by : (ℕ → Option Denoted) → Name → Option Denoted
@@ -57,14 +57,14 @@ denoted_by meaning (name.AText bytes) = Some (AText bytes)
 denoted_by meaning (name.AStandard standard) = Some (AStandard standard)
 denoted_by meaning (name.AnActual meant kind e) = Some (AnActual meant kind e Outermost)
 
-abbrev pub denoted : Env → Name → Option Denoted
-denoted env name = denoted_by (found env) name
+abbrev pub denotation : Env → Name → Option Denoted
+denotation env name = denoted_by (found env) name
 
 abbrev pub left_meaning : Env → Name → Option Denoted
-left_meaning env name = denoted_by (assigned env) name
+left_meaning env name = denoted_by (denotation_as_left_part env) name
 
 -- entities from n on for these identifiers, in front of others
-abbrev pub numbered : ℕ → List Declared → Bindings → Bindings
-numbered n [] bindings = bindings
-numbered n (Quantity x ∷ ds) bindings = Means x (AnEntity n) (numbered (suc n) ds bindings)
-numbered n (ProcedureName x ∷ ds) bindings = Means x (AProcedure n) (numbered (suc n) ds bindings)
+abbrev pub with_entities : ℕ → List Declared → Bindings → Bindings
+with_entities n [] bindings = bindings
+with_entities n (Quantity x ∷ ds) bindings = Means x (AnEntity n) (with_entities (suc n) ds bindings)
+with_entities n (ProcedureName x ∷ ds) bindings = Means x (AProcedure n) (with_entities (suc n) ds bindings)

@@ -1,6 +1,6 @@
 pub mod Env
 pub mod Closures
-pub mod Doing
+pub mod Computation
 pub mod Tasks
 pub mod Names
 pub mod Calls

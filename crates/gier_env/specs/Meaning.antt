@@ -4,7 +4,7 @@ use Rattle.gier_word.specs.declared.alarm.Alarm.TheVariants.{Assignment, Stack}
 use Rattle.gier_tree.specs.Trees.{Program}
 use Rattle.gier_meaning.specs.Tree.{Meant, AsExpression, AsVariable, AsLabel, AsFormal, Expr, Element, Statement, Statements, Whole}
 use Rattle.gier_meaning.specs.Plain.{plain}
-use Rattle.gier_meaning.specs.Entry.{taken}
+use Rattle.gier_meaning.specs.Entry.{live_after_taking}
 use Rattle.gier_meaning.specs.Live.{InProgram}
 use Rattle.gier_meaning.specs.State.{State}
 use Rattle.gier_meaning.specs.Address.{Address}
@@ -12,11 +12,11 @@ use Rattle.gier_meaning.specs.Outcome.{Outcome, Alarmed, Finished, stops, sensel
 use Rattle.gier_meaning.specs.Accounts.{with_most}
 use Rattle.gier_meaning.specs.Scopes.{labels, quantities}
 use Rattle.gier_meaning.specs.Room.{program_room}
-use Rattle.gier_meaning.specs.Turns.{entities_from}
-use Rattle.gier_meaning.specs.Standing.{beginning}
-use Rattle.gier_meaning.specs.Told.{Told, told}
-use Rattle.gier_env.specs.Env.{Env, Outermost, Inside, NoBindings, numbered}
-use Rattle.gier_env.specs.Doing.{Doing}
+use Rattle.gier_meaning.specs.TurnLabels.{entities_from}
+use Rattle.gier_meaning.specs.Standing.{initial_state}
+use Rattle.gier_meaning.specs.Observation.{Observation, observation}
+use Rattle.gier_env.specs.Env.{Env, Outermost, Inside, NoBindings, with_entities}
+use Rattle.gier_env.specs.Computation.{Computation}
 use Rattle.gier_env.specs.Closures.{Closure, what_of}
 use Rattle.gier_env.specs.Standing.{standard_bindings}
 use Rattle.gier_env.specs.Tasks.{Loop, Next}
@@ -39,18 +39,18 @@ nothing_entered = record {
 
 module _ (limit : ℕ) where
   -- only an actual that is a variable, or a formal by name that gives one, has an address
-  abbrev pub actual_address : Next → Meant → Expr → Env → (line : ℕ) → Doing Address
+  abbrev pub actual_address : Next → Meant → Expr → Env → (line : ℕ) → Computation Address
   actual_address next AsExpression e env line live s = stops (Alarmed Assignment) line live s
   actual_address next AsVariable e env line live s = address limit next e env live s
   actual_address next AsLabel e env line live s = senseless line live s
   actual_address next AsFormal e env line live s = address limit next e env live s
 
   -- the rest of the statements of a scope, in which a go to may come again
-  abbrev pub rest_run : Next → (label : ℕ) → List ℕ → Statements → Env → Doing Finished
+  abbrev pub rest_run : Next → (label : ℕ) → List ℕ → Statements → Env → Computation Finished
   rest_run next label own ss env live s =
       caught own (λ label1 s1. next.rest label1 own ss env live s1) (resume_all limit next label ss env live s)
 
-  abbrev pub turns_again : Next → Loop → Element → List Element → Doing Finished
+  abbrev pub turns_again : Next → Loop → Element → List Element → Computation Finished
   turns_again next loop element elements live s =
       again limit next loop (λ inner s1. run limit next loop.body inner live s1) element elements live s
 
@@ -79,11 +79,11 @@ module _ (limit : ℕ) where
   abbrev pub executed : (permitted : ℕ) → (line : ℕ) → Statement → (own : List ℕ) → Env → State Closure → Outcome Closure Finished
   executed permitted line s own env st =
       let room : ℕ = program_room (what_of env st) s in
-      program_run (within permitted) line s own env (taken limit 0 0 room) room st
+      program_run (within permitted) line s own env (live_after_taking limit 0 0 room) room st
 
-  abbrev pub meaning : Program → (unread : List ℕ) → (permitted : ℕ) → Told
+  abbrev pub meaning : Program → (unread : List ℕ) → (permitted : ℕ) → Observation
   meaning program unread permitted =
       let whole : Whole = plain program in
       let own : List ℕ = labels whole.statement in
-      let env : Env = Inside (numbered 0 (quantities own) NoBindings) (Inside standard_bindings Outermost) in
-      told permitted (executed permitted whole.line whole.statement (entities_from 0 own) env (beginning unread permitted))
+      let env : Env = Inside (with_entities 0 (quantities own) NoBindings) (Inside standard_bindings Outermost) in
+      observation permitted (executed permitted whole.line whole.statement (entities_from 0 own) env (initial_state unread permitted))

@@ -8,8 +8,8 @@ use Rattle.gier_meaning.specs.Accounts.{enter}
 use Rattle.gier_meaning.specs.Operators.{is_true}
 use Rattle.gier_meaning.specs.Room.{block_room}
 use Rattle.gier_meaning.specs.Destinations.{goes_to}
-use Rattle.gier_env.specs.Env.{Env, Denoted, AnEntity, denoted}
-use Rattle.gier_env.specs.Doing.{Doing}
+use Rattle.gier_env.specs.Env.{Env, Denoted, AnEntity, denotation}
+use Rattle.gier_env.specs.Computation.{Computation}
 use Rattle.gier_env.specs.Closures.{what_of}
 use Rattle.gier_env.specs.Tasks.{Next}
 use Rattle.gier_env.specs.Expressions.{value, addresses, destination}
@@ -22,7 +22,7 @@ is_label label _ = false
 -- the label stands at this statement or in it, in the same scope
 abbrev mutual
   pub has : ℕ → Env → Statement → Bool
-  has label env (Labelled name s) = is_label label (denoted env name) || has label env s
+  has label env (Labelled name s) = is_label label (denotation env name) || has label env s
   has label env Dummy = false
   has label env (Compound ss) = have label env ss
   has label env (Block line ds ss) = false
@@ -39,7 +39,7 @@ abbrev mutual
 
 module _ (limit : ℕ) where
   abbrev mutual
-    pub run : Next → Statement → Env → Doing Finished
+    pub run : Next → Statement → Env → Computation Finished
     run next (Labelled name s) env live st = run next s env live st
     run next Dummy env live st = Gives Done st
     run next (Compound ss) env live st = run_all next ss env live st
@@ -63,16 +63,16 @@ module _ (limit : ℕ) where
         (λ inner s1. run next s inner live s1)
         list live st
 
-    pub run_all : Next → Statements → Env → Doing Finished
+    pub run_all : Next → Statements → Env → Computation Finished
     run_all next NoStatements env live st = Gives Done st
     run_all next (MoreStatements s ss) env live st =
         then_do (run next s env live st) (λ done s1. run_all next ss env live s1)
 
   -- from the label on; no inner scope is entered
   abbrev mutual
-    pub resume : Next → (label : ℕ) → Statement → Env → Doing Finished
+    pub resume : Next → (label : ℕ) → Statement → Env → Computation Finished
     resume next label (Labelled name s) env live st =
-        either (is_label label (denoted env name)) st
+        either (is_label label (denotation env name)) st
         (λ s1. run next s env live s1)
         (λ s1. resume next label s env live s1)
     resume next label Dummy env live st = Gives Done st
@@ -88,7 +88,7 @@ module _ (limit : ℕ) where
         (λ s1. resume next label other env live s1)
     resume next label (For line variable place list s) env live st = Gives Done st
 
-    pub resume_all : Next → (label : ℕ) → Statements → Env → Doing Finished
+    pub resume_all : Next → (label : ℕ) → Statements → Env → Computation Finished
     resume_all next label NoStatements env live st = Gives Done st
     resume_all next label (MoreStatements s ss) env live st =
         either (has label env s) st

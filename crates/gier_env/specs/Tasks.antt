@@ -6,7 +6,7 @@ use Rattle.gier_meaning.specs.Address.{Address}
 use Rattle.gier_meaning.specs.Outcome.{Finished}
 use Rattle.gier_meaning.specs.Destinations.{Destination}
 use Rattle.gier_env.specs.Env.{Env, Denoted}
-use Rattle.gier_env.specs.Doing.{Doing}
+use Rattle.gier_env.specs.Computation.{Computation}
 
 -- what is handed over to a formal
 pub data Passed : Type 0 where
@@ -23,13 +23,13 @@ pub record Loop : Type 0 where
 
 pub record Next : Type 0 where
   -- the actual of a formal by name, for its value, for its address, for a label; also an element of a switch
-  pub value : Expr → Env → Doing ℤ
-  pub address : Meant → Expr → Env → (line : ℕ) → Doing Address
-  pub destination : Expr → Env → Doing Destination
+  pub value : Expr → Env → Computation ℤ
+  pub address : Meant → Expr → Env → (line : ℕ) → Computation Address
+  pub destination : Expr → Env → Computation Destination
   -- a procedure: its own identifier, kind, formals, statement, and the activation in which it is declared
-  pub procedure : (own : ℕ) → Kind → List Formal → Statement → Env → List Passed → Doing ℤ
-  pub block : Declarations → Statements → Env → Doing Finished
+  pub procedure : (own : ℕ) → Kind → List Formal → Statement → Env → List Passed → Computation ℤ
+  pub block : Declarations → Statements → Env → Computation Finished
   -- statements from a label on, after a go to it; these are the labels of their scope
-  pub rest : (label : ℕ) → List ℕ → Statements → Env → Doing Finished
+  pub rest : (label : ℕ) → List ℕ → Statements → Env → Computation Finished
   -- the same element of a for list again, then those that follow, after the end of a turn
-  pub again : Loop → Element → List Element → Doing Finished
+  pub again : Loop → Element → List Element → Computation Finished

@@ -12,8 +12,8 @@ use Rattle.gier_frames.specs.Numbers.{are_ordered, elements, are_within, offset,
 use Rattle.gier_frames.specs.Refusals.{is_array, array_refusal}
 use Rattle.gier_frames.specs.Effects.{with_array}
 use Rattle.gier_frames.specs.Walk.{element_of}
-use Rattle.gier_frames.specs.Writes.{zeroed, words_from, poured, with_two}
-use Rattle.gier_order.specs.Flat.Region.{put, copied, with_pair, cleared}
+use Rattle.gier_frames.specs.Writes.{with_zeros, words_from, with_values, with_two}
+use Rattle.gier_order.specs.Flat.Region.{put, with_copy, with_pair, cleared_words}
 use Rattle.gier_order.specs.Flat.Arrays.{are_ordered as row_ordered, elements as row_elements, are_within as row_within, offset as row_offset}
 use Rattle.gier_order.specs.Flat.Row.{Regs, Alarmed, On, Ends, Row, plain, needs}
 use Rattle.gier_order.specs.Flat.Rows.{on, gives, array, element, is_index}
@@ -22,9 +22,9 @@ use Rattle.gier_exec.specs.declared.stop.Stop.{Stop}
 use Rattle.gier_exec.specs.Registers.{Registers}
 use Rattle.gier_exec.specs.Rows.{regs_of}
 use Rattle.gier_exec.specs.Following.{Halts, ComesWith, stop_of}
-use Rattle.gier_exec.proofs.Regions.{put_is, pair_is, cleared_is, moved_is, length-zeroed}
-use Rattle.gier_exec.proofs.Founds.{stopped}
-use Rattle.gier_exec.proofs.Comings.{on_is, gives_is}
+use Rattle.gier_exec.proofs.Regions.{put_is, pair_is, cleared_is, moved_is, length-with_zeros}
+use Rattle.gier_exec.proofs.FrameReads.{stopped}
+use Rattle.gier_exec.proofs.RowResults.{on_is, gives_is}
 use Rattle.gier_exec.proofs.Refusings.{le_of}
 
 pub ordered_is : (ws : List ℕ) (at d : ℕ) → row_ordered (slice_index ws) at d ≡ are_ordered ws at d
@@ -102,21 +102,21 @@ array_halts code input m s d place from halt next entered refused =
 length-pair : (ws : List ℕ) (at first second : ℕ) → length (with_two ws at first second) ≡ length ws
 length-pair ws at first second = length-set _ _ _ ∙ length-set _ _ _
 
-length-poured : (ws : List ℕ) (at : ℕ) (values : List ℕ) (n : ℕ) → length (poured ws at values n) ≡ length ws
-length-poured ws at values zero = refl
-length-poured ws at values (suc n) = length-set (poured ws at values n) (at + n) (slice_index values n) ∙ length-poured ws at values n
+length-with_values : (ws : List ℕ) (at : ℕ) (values : List ℕ) (n : ℕ) → length (with_values ws at values n) ≡ length ws
+length-with_values ws at values zero = refl
+length-with_values ws at values (suc n) = length-set (with_values ws at values n) (at + n) (slice_index values n) ∙ length-with_values ws at values n
 
 -- the words with an array
 array_words_are : (ws : List ℕ) (d place from base top count : ℕ) → place + 2 + 2 * d ≤ length ws → base + 2 < length ws → top + count ≤ length ws
-    → slice_index (slice_set (poured (with_two (zeroed ws top count) place top d) (place + 2) (words_from ws from (2 * d)) (2 * d)) (base + 2) (top + count))
-    ≡ put (copied (with_pair (cleared (slice_index ws) top count) place top d) (place + 2) (slice_index ws) from (2 * d)) (base + 2) (top + count)
+    → slice_index (slice_set (with_values (with_two (with_zeros ws top count) place top d) (place + 2) (words_from ws from (2 * d)) (2 * d)) (base + 2) (top + count))
+    ≡ put (with_copy (with_pair (cleared_words (slice_index ws) top count) place top d) (place + 2) (slice_index ws) from (2 * d)) (base + 2) (top + count)
 array_words_are ws d place from base top count descriptor header fits =
-    let two = with_two (zeroed ws top count) place top d in
-    let long : length two ≡ length ws = length-pair (zeroed ws top count) place top d ∙ length-zeroed ws top count in
-    let all : length (poured two (place + 2) (words_from ws from (2 * d)) (2 * d)) ≡ length ws = length-poured two (place + 2) (words_from ws from (2 * d)) (2 * d) ∙ long in
-    put_is (poured two (place + 2) (words_from ws from (2 * d)) (2 * d)) (base + 2) (top + count) (rw all header)
+    let two = with_two (with_zeros ws top count) place top d in
+    let long : length two ≡ length ws = length-pair (with_zeros ws top count) place top d ∙ length-with_zeros ws top count in
+    let all : length (with_values two (place + 2) (words_from ws from (2 * d)) (2 * d)) ≡ length ws = length-with_values two (place + 2) (words_from ws from (2 * d)) (2 * d) ∙ long in
+    put_is (with_values two (place + 2) (words_from ws from (2 * d)) (2 * d)) (base + 2) (top + count) (rw all header)
     ∙ ap (λ f. put f (base + 2) (top + count)) (moved_is two ws (place + 2) from (2 * d) (rw long descriptor)
-    ∙ ap (λ f. copied f (place + 2) (slice_index ws) from (2 * d)) (pair_is (zeroed ws top count) place top d (rw (length-zeroed ws top count) (omega (arith, descriptor)))
+    ∙ ap (λ f. with_copy f (place + 2) (slice_index ws) from (2 * d)) (pair_is (with_zeros ws top count) place top d (rw (length-with_zeros ws top count) (omega (arith, descriptor)))
     ∙ ap (λ f. with_pair f place top d) (cleared_is ws top count fits)))
 
 third : (a b c d e : Bool) → (a && (b && (c && (d && e)))) ≡ true → (c ≡ true) × (e ≡ true)

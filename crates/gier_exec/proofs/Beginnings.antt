@@ -7,7 +7,7 @@ use Rattle.gier_frames.specs.declared.halt.Halt.{Halt}
 use Rattle.gier_frames.specs.declared.halt.Halt.TheVariants.{Alarm as HaltAlarm, Odd as HaltOdd}
 use Rattle.gier_frames.specs.State.{State, IsKept}
 use Rattle.gier_frames.specs.Refusals.{is_call, call_refusal}
-use Rattle.gier_frames.specs.Effects.{called as frames_called}
+use Rattle.gier_frames.specs.Effects.{after_call as frames_called}
 use Rattle.gier_order.specs.declared.order.Order.{Order}
 use Rattle.gier_names.specs.declared.wanted.Wanted.{Wanted}
 use Rattle.gier_names.specs.Evaluations.{number_of, is_thunk, is_unassignable, entry_refusal, or_assignment, begin_refusal, entered_unless, begun}

@@ -6,12 +6,12 @@ use Rattle.std.proofs.Math.Path.{fun_ext}
 use Rattle.gier_word.specs.declared.alarm.Alarm.TheVariants.{Stack}
 use Rattle.gier_frames.specs.State.{State, IsKept}
 use Rattle.gier_frames.specs.Refusals.{is_call}
-use Rattle.gier_frames.specs.Effects.{called as frames_called}
-use Rattle.gier_order.specs.Flat.Region.{copied, with_pair, opened, is_within}
+use Rattle.gier_frames.specs.Effects.{after_call as frames_called}
+use Rattle.gier_order.specs.Flat.Region.{with_copy, with_pair, with_activation, is_within}
 use Rattle.gier_order.specs.Flat.Row.{Regs, Alarmed, NoSteps, On, Ends, Row, plain, needs, odd, NoStep, NoRoom, Enters, entry}
 use Rattle.gier_order.specs.Flat.Row.{Entry as RowEntry}
 use Rattle.gier_order.specs.Flat.Rows.{can_enter, inside, called, taken_by, goes, enters, in_level, word_at}
-use Rattle.gier_order.specs.Flat.Kinds.{Handed, Bare, Kinded, Neither, handed, is_a}
+use Rattle.gier_order.specs.Flat.Kinds.{Handed, Bare, Kinded, Neither, formals_handed, is_a}
 use Rattle.gier_order.specs.declared.object.Object.{Object}
 use Rattle.gier_order.specs.declared.order.Order.{Order}
 use Rattle.gier_order.specs.declared.operation.Operation.{Operation}
@@ -117,7 +117,7 @@ none_within at q = grind (arith, nat_tests)
 choice : Bool → ℕ → ℕ → ℕ
 choice b x y = elim b as (λ _. ℕ) [ true ↦ x | false ↦ y ]
 
-copied_none : (f g : ℕ → ℕ) (at from other : ℕ) → copied f at g from 0 ≡ copied f at g other 0
+copied_none : (f g : ℕ → ℕ) (at from other : ℕ) → with_copy f at g from 0 ≡ with_copy f at g other 0
 unfolding choice
 copied_none f g at from other = fun_ext (λ q. ap (λ b. choice b (g (from + (q - at))) (f q)) (none_within at q) ∙ sym (ap (λ b. choice b (g (other + (q - at))) (f q)) (none_within at q)))
 
@@ -131,12 +131,12 @@ taken_as code size m (NoRoom left) go other h = refl
 taken_as code size m (Enters left greatest end) go other h = h left greatest end
 
 module _ (code : List ℕ) (size : ℕ) (m : Regs) (level room outer from other count a : ℕ) (less : count < 2) where
-  words_same : copied (with_pair (opened m.words m.top m.base level outer room) (m.top + 3) (m.place + 1) 0) (m.top + 5 + count % 2) m.words from (count / 2 * 2)
-      ≡ copied (with_pair (opened m.words m.top m.base level outer room) (m.top + 3) (m.place + 1) 0) (m.top + 5 + count % 2) m.words other (count / 2 * 2)
+  words_same : with_copy (with_pair (with_activation m.words m.top m.base level outer room) (m.top + 3) (m.place + 1) 0) (m.top + 5 + count % 2) m.words from (count / 2 * 2)
+      ≡ with_copy (with_pair (with_activation m.words m.top m.base level outer room) (m.top + 3) (m.place + 1) 0) (m.top + 5 + count % 2) m.words other (count / 2 * 2)
   words_same =
-      let f : ℕ → ℕ = with_pair (opened m.words m.top m.base level outer room) (m.top + 3) (m.place + 1) 0 in
+      let f : ℕ → ℕ = with_pair (with_activation m.words m.top m.base level outer room) (m.top + 3) (m.place + 1) 0 in
       let at = m.top + 5 + count % 2 in
-      ap (λ n. copied f at m.words from n) (no_words count less) ∙ copied_none f m.words at from other ∙ sym (ap (λ n. copied f at m.words other n) (no_words count less))
+      ap (λ n. with_copy f at m.words from n) (no_words count less) ∙ copied_none f m.words at from other ∙ sym (ap (λ n. with_copy f at m.words other n) (no_words count less))
 
   called_same : (left greatest end : ℕ) → goes code size m a (called code size m level room outer 0 from count left greatest end) ≡ goes code size m a (called code size m level room outer 0 other count left greatest end)
   called_same left greatest end = ap (λ f. plain (On (record (inside code size m level room outer 1 left greatest end) { words = f; place = a }))) words_same
@@ -260,5 +260,5 @@ kinded_by true b level n e = absurd cc
 kinded_by false true level n e = cc
 kinded_by false false level n e = absurd cc
 
-pub kinded_level : (head : Order) (n : ℕ) → handed head ≡ Kinded n → n ≡ head.level
+pub kinded_level : (head : Order) (n : ℕ) → formals_handed head ≡ Kinded n → n ≡ head.level
 kinded_level head n e = kinded_by (is_a Proc head) (is_a Kinds head && (nat_le 1 head.level && nat_le head.level 80)) head.level n e

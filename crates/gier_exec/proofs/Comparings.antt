@@ -7,7 +7,7 @@ use Rattle.gier_order.specs.declared.object.Object.{Object}
 use Rattle.gier_order.specs.declared.order.Order.{Order}
 use Rattle.gier_order.specs.Flat.Row.{Regs, Alarmed, On, Ends, Row, plain, needs, odd, reads}
 use Rattle.gier_order.specs.Flat.Rows.{goes, gives, truth, cell_word, reads_order, agrees, agrees_with, is_address, looks_in, looks_at}
-use Rattle.gier_order.specs.Flat.Kinds.{Handed, Bare, Kinded, Neither, groups_for, handed}
+use Rattle.gier_order.specs.Flat.Kinds.{Handed, Bare, Kinded, Neither, groups_for, formals_handed}
 use Rattle.gier_exec.specs.declared.stop.Stop.{Stop}
 use Rattle.gier_exec.specs.declared.stop.Stop.TheVariants.{Odd}
 use Rattle.gier_exec.specs.declared.stop.Miss.{Miss}
@@ -16,7 +16,7 @@ use Rattle.gier_exec.specs.References.{Refers, Fetches, fetched_at, stop_step}
 use Rattle.gier_exec.specs.Searching.{Searches}
 use Rattle.gier_exec.specs.Agreeing.{matches}
 use Rattle.gier_exec.proofs.Searches.{needs_yes, needs_no, search_as, search_found}
-use Rattle.gier_exec.proofs.Reaching.{search_word}
+use Rattle.gier_exec.proofs.SearchReach.{search_word}
 
 and_no : (a b : Bool) → b ≡ false → (a && b) ≡ false
 and_no true b e = e
@@ -98,7 +98,7 @@ count_many count many = grind (arith, nat_tests, many)
 -- AGREE
 
 abbrev pub agree_head : (code : List ℕ) (size : ℕ) (m : Regs) (count k : ℕ) → Order → Row
-agree_head code size m count k head = agrees_with code size m k (m.place + 1 + 1) count (handed head)
+agree_head code size m count k head = agrees_with code size m k (m.place + 1 + 1) count (formals_handed head)
 
 abbrev pub agree_word : (code : List ℕ) (size : ℕ) (m : Regs) (l a : ℕ) → ℕ → Row
 agree_word code size m l a count = cell_word code size m l a (λ place k. reads_order code size m k (agree_head code size m count k))
@@ -155,7 +155,7 @@ list_there code size m count k b e words next same at is found =
 -- BYVAL
 
 abbrev pub looks_row : (code : List ℕ) (size : ℕ) (m : Regs) (l a : ℕ) → Row
-looks_row code size m l a = cell_word code size m l a (λ place k. reads_order code size m k (λ head. looks_in code size m k (handed head)))
+looks_row code size m l a = cell_word code size m l a (λ place k. reads_order code size m k (λ head. looks_in code size m k (formals_handed head)))
 
 abbrev pub look_go : (code : List ℕ) (size : ℕ) (m : Regs) → ℕ → Row
 look_go code size m kind = gives code size m (truth (nat_le kind 2))

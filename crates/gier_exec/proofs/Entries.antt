@@ -6,15 +6,15 @@ use Rattle.std.proofs.lemmas.Bool.{lt-ltb}
 use Rattle.std.proofs.lemmas.List.{length-set}
 use Rattle.gier_word.specs.declared.alarm.Alarm.TheVariants.{Stack}
 use Rattle.gier_frames.specs.State.{State, IsKept}
-use Rattle.gier_frames.specs.Effects.{entered_one, started, entered_block, left, call_words, called as frames_called}
-use Rattle.gier_frames.specs.Writes.{zeroed, with_two, with_header}
-use Rattle.gier_order.specs.Flat.Region.{put, copied, with_pair, opened}
+use Rattle.gier_frames.specs.Effects.{entered_one, after_start, entered_block, left, call_words, after_call as frames_called}
+use Rattle.gier_frames.specs.Writes.{with_zeros, with_two, with_header}
+use Rattle.gier_order.specs.Flat.Region.{put, with_copy, with_pair, with_activation}
 use Rattle.gier_order.specs.Flat.Row.{Regs, Alarmed, NoSteps, On, Ends, Row, plain, needs, odd, Entry, NoStep, NoRoom, Enters, entry}
 use Rattle.gier_order.specs.Flat.Rows.{on, inside, called, outside, first_activation, taken_by}
 use Rattle.gier_exec.specs.Registers.{Registers}
 use Rattle.gier_exec.specs.Rows.{regs_of}
-use Rattle.gier_exec.proofs.Regions.{put_is, opened_is, pair_is, moved_is, length-zeroed}
-use Rattle.gier_exec.proofs.Comings.{on_is}
+use Rattle.gier_exec.proofs.Regions.{put_is, opened_is, pair_is, moved_is, length-with_zeros}
+use Rattle.gier_exec.proofs.RowResults.{on_is}
 
 -- Taking a step and then room
 
@@ -61,8 +61,8 @@ inside_is code input m s level room outer mark kept least fits =
     sym (with_both (record (regs_of (deeper m) (entered_one s level room outer mark) input) { started = s.entered }) _ _ _ _
     (opened_is s.words s.top s.base level outer room least fits) (marked s room mark kept least fits))
 
-length-opened : (ws : List ℕ) (at old head end room : ℕ) → length (with_header (zeroed ws at room) at old head end) ≡ length ws
-length-opened ws at old head end room = length-set _ _ _ ∙ length-set _ _ _ ∙ length-set _ _ _ ∙ length-zeroed ws at room
+length-with_activation : (ws : List ℕ) (at old head end room : ℕ) → length (with_header (with_zeros ws at room) at old head end) ≡ length ws
+length-with_activation ws at old head end room = length-set _ _ _ ∙ length-set _ _ _ ∙ length-set _ _ _ ∙ length-with_zeros ws at room
 
 length-pair : (ws : List ℕ) (at first second : ℕ) → length (with_two ws at first second) ≡ length ws
 length-pair ws at first second = length-set _ _ _ ∙ length-set _ _ _
@@ -72,14 +72,14 @@ odd_part count = grind arith
 
 called_words : (s : State) (level room outer back wanted from count : ℕ) → 5 + count ≤ room → s.top + room ≤ length s.words
     → slice_index (call_words s.words s.top room s.base (level * 16777216 + outer) back wanted from count)
-    ≡ copied (with_pair (opened (slice_index s.words) s.top s.base level outer room) (s.top + 3) back wanted) (s.top + 5 + count % 2) (slice_index s.words) from (count / 2 * 2)
+    ≡ with_copy (with_pair (with_activation (slice_index s.words) s.top s.base level outer room) (s.top + 3) back wanted) (s.top + 5 + count % 2) (slice_index s.words) from (count / 2 * 2)
 called_words s level room outer back wanted from count least fits =
-    let head = with_header (zeroed s.words s.top room) s.top s.base (level * 16777216 + outer) (s.top + room) in
-    let long : length head ≡ length s.words = length-opened s.words s.top s.base (level * 16777216 + outer) (s.top + room) room in
+    let head = with_header (with_zeros s.words s.top room) s.top s.base (level * 16777216 + outer) (s.top + room) in
+    let long : length head ≡ length s.words = length-with_activation s.words s.top s.base (level * 16777216 + outer) (s.top + room) room in
     let two : length (with_two head (s.top + 3) back wanted) ≡ length s.words = length-pair head (s.top + 3) back wanted ∙ long in
     let parts : count % 2 + count / 2 * 2 ≡ count = odd_part count in
     moved_is (with_two head (s.top + 3) back wanted) s.words (s.top + 5 + count % 2) from (count / 2 * 2) (rw two (omega (arith, parts, least, fits)))
-    ∙ ap (λ f. copied f (s.top + 5 + count % 2) (slice_index s.words) from (count / 2 * 2))
+    ∙ ap (λ f. with_copy f (s.top + 5 + count % 2) (slice_index s.words) from (count / 2 * 2))
     (pair_is head (s.top + 3) back wanted (rw long (omega (arith, least, fits)))
     ∙ ap (λ f. with_pair f (s.top + 3) back wanted) (opened_is s.words s.top s.base level outer room (omega (arith, least)) fits))
 
@@ -155,7 +155,7 @@ zero_more n = omega arith
 
 pub start_row : (code input : List ℕ) (m : Registers) (s : State) (level room : ℕ) → IsKept s → s.entered ≡ false → m.place + 1 < length code → 3 ≤ room → room ≤ length s.words
     → needs (not s.entered && (nat_le 3 room && nat_lt (m.place + 1) (length code))) (if nat_le room (length s.words) then on code (length s.words) (regs_of m s input) (first_activation code (length s.words) (regs_of m s input) level room) else plain (Ends (Alarmed Stack) (regs_of m s input)))
-    ≡ goes_on (record m { depth = 0 }) (started s level room) input
+    ≡ goes_on (record m { depth = 0 }) (after_start s level room) input
 start_row code input m s level room kept entered next least fits =
     let holds : (not s.entered && (nat_le 3 room && nat_lt (m.place + 1) (length code))) ≡ true = grind (arith, nat_tests, entered, next, least) in
     let there : nat_le room (length s.words) ≡ true = grind (arith, nat_tests, fits) in
@@ -164,5 +164,5 @@ start_row code input m s level room kept entered next least fits =
     rw holds (rw there (
     on_is code (length s.words) (regs_of m s input) (first_activation code (length s.words) (regs_of m s input) level room) next
     ∙ ap (λ f. plain (On (record (first_activation code (length s.words) (regs_of m s input) level room) { words = f; place = m.place + 1 }))) (sym (opened_is s.words 0 0 level 0 room least (omega (arith, fits))))
-    ∙ ap (λ f. plain (On (record (first_activation code (length s.words) (regs_of m s input) level room) { words = slice_index (started s level room).words; marks = f; place = m.place + 1 }))) (sym (marked begun room 0 kept_begun least (omega (arith, fits))))
-    ∙ ap (λ n. plain (On (record (regs_of (record m { depth = 0 }) (started s level room) input) { top = n; greatest = max s.greatest n; place = m.place + 1 }))) (sym (zero_more room))))
+    ∙ ap (λ f. plain (On (record (first_activation code (length s.words) (regs_of m s input) level room) { words = slice_index (after_start s level room).words; marks = f; place = m.place + 1 }))) (sym (marked begun room 0 kept_begun least (omega (arith, fits))))
+    ∙ ap (λ n. plain (On (record (regs_of (record m { depth = 0 }) (after_start s level room) input) { top = n; greatest = max s.greatest n; place = m.place + 1 }))) (sym (zero_more room))))

@@ -13,7 +13,7 @@ use Rattle.gier_order.specs.declared.operation.Operation.{Operation}
 use Rattle.gier_order.specs.declared.operation.Operation.TheVariants.{Thunk, Value as ValueOrder, Place, NameL, Pass, Switch, SwForm}
 use Rattle.gier_order.specs.Flat.Row.{Regs, On, Row, plain, needs, odd, reads}
 use Rattle.gier_order.specs.Flat.Kinds.{is_a}
-use Rattle.gier_order.specs.Flat.Rows.{evaluates, reads_order, can_enter, takes_room, called, begins, effect, local, cell_pair, chosen, chooses, on}
+use Rattle.gier_order.specs.Flat.Rows.{evaluates, reads_order, can_enter, takes_room, called, begins, effect, local, cell_pair, element_index, chooses, on}
 use Rattle.gier_exec.specs.declared.activations.Evaluation.{Evaluation}
 use Rattle.gier_exec.specs.declared.stop.Stop.{Stop}
 use Rattle.gier_exec.specs.declared.stop.Stop.TheVariants.{Odd}
@@ -128,7 +128,7 @@ switch_is operation other is = absurd cc
 abbrev some_if : Bool → ℕ → Option ℕ
 some_if b n = if b then Some n else None
 
-pub chosen_none : (z : ℤ) (count : ℕ) → None ≡ picked z count → chosen z count ≡ None
+pub chosen_none : (z : ℤ) (count : ℕ) → None ≡ picked z count → element_index z count ≡ None
 chosen_none (negsuc n) count e = refl
 chosen_none (pos n) count e = by (nat_le 1 n && nat_le n count) e
   where
@@ -136,7 +136,7 @@ chosen_none (pos n) count e = by (nat_le 1 n && nat_le n count) e
     by true h = absurd cc
     by false h = refl
 
-pub chosen_some : (z : ℤ) (count at : ℕ) → Some at ≡ picked z count → chosen z count ≡ Some (at + 1)
+pub chosen_some : (z : ℤ) (count at : ℕ) → Some at ≡ picked z count → element_index z count ≡ Some (at + 1)
 chosen_some (negsuc n) count at e = absurd cc
 chosen_some (pos n) count at e = by (nat_le 1 n && nat_le n count) refl e
   where
@@ -170,7 +170,7 @@ none_lost code size m regs e words stop at same is =
 
 -- the element with a number
 pub element_row : (code : List ℕ) (size : ℕ) (m : Regs) (table outer count at : ℕ) (z : ℤ) → Some at ≡ picked z count
-    → chooses code size m table outer (chosen z count) ≡ reads code (table + 1 + at) (λ a. evaluates code size m a outer 3)
+    → chooses code size m table outer (element_index z count) ≡ reads code (table + 1 + at) (λ a. evaluates code size m a outer 3)
 element_row code size m table outer count at z is =
     let there : table + (at + 1) ≡ table + 1 + at = omega arith in
     ap (λ x. chooses code size m table outer x) (chosen_some z count at is)

@@ -12,7 +12,7 @@ use Rattle.gier_order.specs.declared.operation.Operation.{Operation}
 use Rattle.gier_order.specs.declared.operation.Operation.TheVariants.{Start, Stop, Take, Short, Long, Keep, Addr, Fetch, Put, Add, Sub, Mul, Div, Pow, Neg, Lt, Le, Eq, Ge, Gt, Ne, Not, And, Or, Impl, Equiv, Jump, False, Test, Turn, Block, Leave, Array, Index, Proc, Call, Formal, Return, Thunk, Value, Place, NameL, Pass, Back, Give, Lib, Switch, SwForm, Lab, Go, Base, Kinds, Agree, ByVal, CallF}
 use Rattle.gier_order.specs.Flat.Row.{Regs, Ending, Step, On, Ends, Odd, Row, plain, odd, needs, behind_ref, on_word, Entry, NoStep, NoRoom, Enters, entry}
 use Rattle.gier_order.specs.Flat.Region.{put}
-use Rattle.gier_order.specs.Flat.Kinds.{Handed, Bare, Kinded, Neither, handed}
+use Rattle.gier_order.specs.Flat.Kinds.{Handed, Bare, Kinded, Neither, formals_handed}
 use Rattle.gier_order.specs.Flat.Arrays.{elements}
 use Rattle.gier_order.specs.Flat.Rows
 
@@ -252,7 +252,7 @@ module _ (code : List ℕ) (size : ℕ) (m : Regs) (input : List ℕ) where
   effect_fed Index l a other = needs_fed input _ _ _ (element_fed l (m.words (m.base + a)) (m.base + a + 1))
   effect_fed Proc l a other = odd_fed input
   effect_fed Call l a other = procedure_fed a _ _ (λ head count. level_fed l _ _ (λ outer. enters_fed head.level head.address outer (m.base + m.r) count (a + 2)))
-  effect_fed Formal l a other = cell_fed l a _ _ (λ place k. order_fed k _ _ (λ head. bare_fed k (place + 1) head (handed head)))
+  effect_fed Formal l a other = cell_fed l a _ _ (λ place k. order_fed k _ _ (λ head. bare_fed k (place + 1) head (formals_handed head)))
   effect_fed Return l a other = needs_fed input _ _ _ (if_fed input _ _ _ _ _ (needs_fed input _ _ _ (leaves_fed (m.words (m.base + 5)))) (leaves_fed m.r))
   effect_fed Thunk l a other = odd_fed input
   effect_fed Value l a other = pair_fed l a _ _ (λ k outer. evaluates_fed k outer Rows.for_value)
@@ -271,9 +271,9 @@ module _ (code : List ℕ) (size : ℕ) (m : Regs) (input : List ℕ) where
   effect_fed Go l a other = if_fed input _ _ _ _ _ (on_fed m) (needs_fed input _ _ _ (needs_fed input _ _ _ (pays_fed m.left m.r (record m { base = m.q; top = m.words (m.q + 2); greatest = max m.greatest (m.words (m.q + 2)) }))))
   effect_fed Base l a other = if_fed input _ _ _ _ _ (gives_fed m.base) (level_fed l _ _ (λ b. gives_fed b))
   effect_fed Kinds l a other = odd_fed input
-  effect_fed Agree l a other = reads_fed (m.place + 1) _ _ (λ count. cell_fed l a _ _ (λ place k. order_fed k _ _ (λ head. agrees_with_fed k (m.place + 1 + 1) count (handed head))))
-  effect_fed ByVal l a other = cell_fed l a _ _ (λ place k. order_fed k _ _ (λ head. looks_in_fed k (handed head)))
-  effect_fed CallF l a other = cell_fed l a _ _ (λ place k. order_fed k _ _ (λ kinds. kinded_fed (place + 1) kinds (handed kinds)))
+  effect_fed Agree l a other = reads_fed (m.place + 1) _ _ (λ count. cell_fed l a _ _ (λ place k. order_fed k _ _ (λ head. agrees_with_fed k (m.place + 1 + 1) count (formals_handed head))))
+  effect_fed ByVal l a other = cell_fed l a _ _ (λ place k. order_fed k _ _ (λ head. looks_in_fed k (formals_handed head)))
+  effect_fed CallF l a other = cell_fed l a _ _ (λ place k. order_fed k _ _ (λ kinds. kinded_fed (place + 1) kinds (formals_handed kinds)))
 
   pub effect_on : (operation : Operation) (l a : ℕ) → operation ≢ Lib → Rows.effect code size n operation l a ≡ fed input (Rows.effect code size m operation l a)
   effect_on operation l a other = fed_of input _ _ (effect_fed operation l a other)

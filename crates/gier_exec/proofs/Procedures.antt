@@ -11,7 +11,7 @@ use Rattle.gier_word.specs.declared.alarm.Alarm.{Alarm}
 use Rattle.gier_word.specs.declared.int40.Spoil.{Spoil}
 use Rattle.gier_io.specs.Device.{Puts, PutsPart}
 use Rattle.gier_library.specs.Data.{Makes}
-use Rattle.gier_library.proofs.Longer.{IsSettled, makes_on_all}
+use Rattle.gier_library.proofs.LongerData.{IsSettled, makes_on_all}
 use Rattle.gier_frames.specs.State.{State}
 use Rattle.gier_order.specs.Table.{operation_at}
 use Rattle.gier_order.specs.declared.object.Object.{Object}
@@ -27,7 +27,7 @@ use Rattle.gier_exec.specs.Registers.{Registers}
 use Rattle.gier_exec.specs.Rows.{regs_of, code_in}
 use Rattle.gier_exec.specs.Turning.{told, IsRest, StartsWith, left_by, IsCut, Obeys}
 use Rattle.gier_exec.specs.Standards.{on_from, Sends, Computes, Receives, after_both, Starts, PrintsOn}
-use Rattle.gier_exec.proofs.Comings.{on_is, gives_is, answered_comes}
+use Rattle.gier_exec.proofs.RowResults.{on_is, gives_is, answered_comes}
 use Rattle.gier_exec.proofs.Referrings.{length_code}
 use Rattle.gier_exec.proofs.Starting.{starts_alike}
 

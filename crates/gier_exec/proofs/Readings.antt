@@ -8,7 +8,7 @@ use Rattle.gier_drum.specs.Drum.{Logs}
 use Rattle.gier_word.specs.Cause.{HasRisen}
 use Rattle.gier_order.specs.declared.object.Object.{Object}
 use Rattle.gier_places.specs.Contents.{Contents, LogsReads, AfterRefer, Refers}
-use Rattle.gier_best.specs.Traced.{Traced, KeepsSettings}
+use Rattle.gier_best.specs.TraceModel.{Traced, KeepsSettings}
 use Rattle.gier_exec.specs.Reading.{Stand, CanRead, Reads, ReadsMore}
 
 -- a read that fails or finds its track in a place leaves the journal

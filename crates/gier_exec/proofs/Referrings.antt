@@ -9,7 +9,7 @@ use Rattle.gier_order.specs.Misses.{misses}
 use Rattle.gier_order.specs.declared.object.Object.{Object}
 use Rattle.gier_order.specs.Flat.Row.{Row, reads, on_word, behind_ref, odd}
 use Rattle.gier_places.specs.Contents.{Contents, Agrees, LogsReads, AfterRefer, StandsFor as PlacesFor, Refers as PlacesRefers}
-use Rattle.gier_best.specs.Traced.{HasNoted}
+use Rattle.gier_best.specs.TraceModel.{HasNoted}
 use Rattle.gier_exec.specs.Reading.{Stand}
 use Rattle.gier_exec.specs.Rows.{track_of, track_at, word_in, first_of, code_in}
 use Rattle.gier_exec.specs.References.{Refers, tracks_of}

@@ -7,9 +7,9 @@ use Rattle.std.proofs.lemmas.Bool.Decides.{nat_tests}
 use Rattle.std.proofs.lemmas.Bool.{cases_lt}
 use Rattle.gier_frames.specs.declared.halt.Halt.{Halt}
 use Rattle.gier_frames.specs.declared.halt.Halt.TheVariants.{Odd}
-use Rattle.gier_frames.specs.Writes.{zeroed, words_from, poured, with_two, with_header as frames_header}
+use Rattle.gier_frames.specs.Writes.{with_zeros, words_from, with_values, with_two, with_header as frames_header}
 use Rattle.gier_frames.specs.Walk.{sought}
-use Rattle.gier_order.specs.Flat.Region.{put, cleared, copied, with_pair, opened, seek, is_within}
+use Rattle.gier_order.specs.Flat.Region.{put, cleared_words, with_copy, with_pair, with_activation, seek, is_within}
 
 -- one word
 put_at : (ws : List ℕ) (p v q : ℕ) → p < length ws → (b : Bool) → (q == p) ≡ b → slice_index (slice_set ws p v) q ≡ elim b as (λ _. ℕ) [ true ↦ v | false ↦ slice_index ws q ]
@@ -19,13 +19,13 @@ put_at ws p v q lt false e = let other : q ≢ p = grind (arith, nat_tests, e) i
 pub put_is : (ws : List ℕ) (p v : ℕ) → p < length ws → slice_index (slice_set ws p v) ≡ put (slice_index ws) p v
 put_is ws p v lt = fun_ext (λ q. put_at ws p v q lt (q == p) refl)
 
-pub length-zeroed : (ws : List ℕ) (at n : ℕ) → length (zeroed ws at n) ≡ length ws
-length-zeroed ws at zero = refl
-length-zeroed ws at (suc n) = length-set (zeroed ws at n) (at + n) 0 ∙ length-zeroed ws at n
+pub length-with_zeros : (ws : List ℕ) (at n : ℕ) → length (with_zeros ws at n) ≡ length ws
+length-with_zeros ws at zero = refl
+length-with_zeros ws at (suc n) = length-set (with_zeros ws at n) (at + n) 0 ∙ length-with_zeros ws at n
 
-length-poured : (ws : List ℕ) (at : ℕ) (values : List ℕ) (n : ℕ) → length (poured ws at values n) ≡ length ws
-length-poured ws at values zero = refl
-length-poured ws at values (suc n) = length-set (poured ws at values n) (at + n) (slice_index values n) ∙ length-poured ws at values n
+length-with_values : (ws : List ℕ) (at : ℕ) (values : List ℕ) (n : ℕ) → length (with_values ws at values n) ≡ length ws
+length-with_values ws at values zero = refl
+length-with_values ws at values (suc n) = length-set (with_values ws at values n) (at + n) (slice_index values n) ∙ length-with_values ws at values n
 
 none_within : (at q : ℕ) → is_within at 0 q ≡ false
 none_within at q = grind (arith, nat_tests)
@@ -49,27 +49,27 @@ one_more f g at n q false e =
     let other : q ≢ at + n = grind (arith, nat_tests, e) in
     ap (λ b. choice b (g (q - at)) (f q)) (same_within n at q other)
 
-put_cleared : (f : ℕ → ℕ) (at n : ℕ) → put (cleared f at n) (at + n) 0 ≡ cleared f at (suc n)
+put_cleared : (f : ℕ → ℕ) (at n : ℕ) → put (cleared_words f at n) (at + n) 0 ≡ cleared_words f at (suc n)
 put_cleared f at n = fun_ext (λ q. one_more f (λ k. 0) at n q (q == at + n) refl)
 
-put_copied : (f g : ℕ → ℕ) (at from n : ℕ) → put (copied f at g from n) (at + n) (g (from + n)) ≡ copied f at g from (suc n)
+put_copied : (f g : ℕ → ℕ) (at from n : ℕ) → put (with_copy f at g from n) (at + n) (g (from + n)) ≡ with_copy f at g from (suc n)
 put_copied f g at from n = fun_ext (λ q. one_more f (λ k. g (from + k)) at n q (q == at + n) refl)
 
 -- a run of zeros
-pub cleared_is : (ws : List ℕ) (at n : ℕ) → at + n ≤ length ws → slice_index (zeroed ws at n) ≡ cleared (slice_index ws) at n
+pub cleared_is : (ws : List ℕ) (at n : ℕ) → at + n ≤ length ws → slice_index (with_zeros ws at n) ≡ cleared_words (slice_index ws) at n
 cleared_is ws at zero fits = fun_ext (λ q. sym (ap (λ b. choice b 0 (slice_index ws q)) (none_within at q)))
 cleared_is ws at (suc n) fits =
-    put_is (zeroed ws at n) (at + n) 0 (rw (length-zeroed ws at n) (omega (arith, fits)))
+    put_is (with_zeros ws at n) (at + n) 0 (rw (length-with_zeros ws at n) (omega (arith, fits)))
     ∙ ap (λ f. put f (at + n) 0) (cleared_is ws at n (omega (arith, fits)))
     ∙ put_cleared (slice_index ws) at n
 
 -- a run of values that stand in another list from a place on
-pub copied_is : (ws values : List ℕ) (g : ℕ → ℕ) (at from n : ℕ) → ((k : ℕ) → k < n → slice_index values k ≡ g (from + k)) → at + n ≤ length ws → slice_index (poured ws at values n) ≡ copied (slice_index ws) at g from n
+pub copied_is : (ws values : List ℕ) (g : ℕ → ℕ) (at from n : ℕ) → ((k : ℕ) → k < n → slice_index values k ≡ g (from + k)) → at + n ≤ length ws → slice_index (with_values ws at values n) ≡ with_copy (slice_index ws) at g from n
 copied_is ws values g at from zero are fits = fun_ext (λ q. sym (ap (λ b. choice b (g (from + (q - at))) (slice_index ws q)) (none_within at q)))
 copied_is ws values g at from (suc n) are fits =
-    put_is (poured ws at values n) (at + n) (slice_index values n) (rw (length-poured ws at values n) (omega (arith, fits)))
+    put_is (with_values ws at values n) (at + n) (slice_index values n) (rw (length-with_values ws at values n) (omega (arith, fits)))
     ∙ ap (λ f. put f (at + n) (slice_index values n)) (copied_is ws values g at from n (λ k lt. are k (omega (arith, lt))) (omega (arith, fits)))
-    ∙ ap (λ v. put (copied (slice_index ws) at g from n) (at + n) v) (are n (omega arith))
+    ∙ ap (λ v. put (with_copy (slice_index ws) at g from n) (at + n) v) (are n (omega arith))
     ∙ put_copied (slice_index ws) g at from n
 
 length-from : (ws : List ℕ) (from n : ℕ) → length (words_from ws from n) ≡ n
@@ -89,7 +89,7 @@ from_at ws from (suc n) k lt = ⊎_elim
     (cases_lt k n)
 
 -- a run of words moved
-pub moved_is : (ws source : List ℕ) (at from n : ℕ) → at + n ≤ length ws → slice_index (poured ws at (words_from source from n) n) ≡ copied (slice_index ws) at (slice_index source) from n
+pub moved_is : (ws source : List ℕ) (at from n : ℕ) → at + n ≤ length ws → slice_index (with_values ws at (words_from source from n) n) ≡ with_copy (slice_index ws) at (slice_index source) from n
 moved_is ws source at from n fits = copied_is ws (words_from source from n) (slice_index source) at from n (λ k lt. from_at source from n k lt) fits
 
 pub pair_is : (ws : List ℕ) (at first second : ℕ) → at + 2 ≤ length ws → slice_index (with_two ws at first second) ≡ with_pair (slice_index ws) at first second
@@ -98,12 +98,12 @@ pair_is ws at first second fits =
     ∙ ap (λ f. put f (at + 1) second) (put_is ws at first (omega (arith, fits)))
 
 -- a new activation
-pub opened_is : (ws : List ℕ) (at old level outer room : ℕ) → 3 ≤ room → at + room ≤ length ws → slice_index (frames_header (zeroed ws at room) at old (level * 16777216 + outer) (at + room)) ≡ opened (slice_index ws) at old level outer room
+pub opened_is : (ws : List ℕ) (at old level outer room : ℕ) → 3 ≤ room → at + room ≤ length ws → slice_index (frames_header (with_zeros ws at room) at old (level * 16777216 + outer) (at + room)) ≡ with_activation (slice_index ws) at old level outer room
 opened_is ws at old level outer room least fits =
-    let long : length (zeroed ws at room) ≡ length ws = length-zeroed ws at room in
-    let two : length (with_two (zeroed ws at room) at old (level * 16777216 + outer)) ≡ length ws = length-set _ _ _ ∙ length-set _ _ _ ∙ long in
-    put_is (with_two (zeroed ws at room) at old (level * 16777216 + outer)) (at + 2) (at + room) (rw two (omega (arith, least, fits)))
-    ∙ ap (λ f. put f (at + 2) (at + room)) (pair_is (zeroed ws at room) at old (level * 16777216 + outer) (rw long (omega (arith, least, fits))))
+    let long : length (with_zeros ws at room) ≡ length ws = length-with_zeros ws at room in
+    let two : length (with_two (with_zeros ws at room) at old (level * 16777216 + outer)) ≡ length ws = length-set _ _ _ ∙ length-set _ _ _ ∙ long in
+    put_is (with_two (with_zeros ws at room) at old (level * 16777216 + outer)) (at + 2) (at + room) (rw two (omega (arith, least, fits)))
+    ∙ ap (λ f. put f (at + 2) (at + room)) (pair_is (with_zeros ws at room) at old (level * 16777216 + outer) (rw long (omega (arith, least, fits))))
     ∙ ap (λ f. put (with_pair f at old (level * 16777216 + outer)) (at + 2) (at + room)) (cleared_is ws at room fits)
 
 -- the walk along the enclosing activations

@@ -16,7 +16,7 @@ use Rattle.gier_exec.specs.declared.stop.Stop.{Stop}
 use Rattle.gier_exec.specs.declared.stop.Stop.TheVariants.{Ended, Alarm, Steps, Odd}
 use Rattle.gier_exec.specs.declared.stop.Miss.{Miss}
 use Rattle.gier_exec.specs.declared.stop.Miss.TheVariants.{Drum, Stop as Stopped}
-use Rattle.gier_exec.proofs.Comings.{halts_does}
+use Rattle.gier_exec.proofs.RowResults.{halts_does}
 use Rattle.gier_exec.proofs.Referrings.{refers_none, refers_both}
 
 behind_both : (first second : List ℕ) (row : Row) → behind first (behind second row) ≡ behind (first ++ second) row

@@ -1,10 +1,10 @@
 -- What an order that reads words of the object does to the drum, to the places, and to the two counts of references.
 use Rattle.std.specs.Prelude.{◌≡◌, ◌+◌, ◌/◌, ◌≤◌, ◌^◌, ℕ, List, Option}
 use Rattle.gier_drum.specs.declared.drum.Entry.{Entry}
-use Rattle.gier_order.specs.Counts.{Counts, taken}
+use Rattle.gier_order.specs.Counts.{Counts, references_taken}
 use Rattle.gier_order.specs.declared.object.Object.{Object}
 use Rattle.gier_places.specs.Contents.{Contents, LogsReads}
-use Rattle.gier_best.specs.Traced.{Traced, AreTracks, KeepsSettings}
+use Rattle.gier_best.specs.TraceModel.{Traced, AreTracks, KeepsSettings}
 
 -- how many tracks so many words fill
 abbrev pub tracks_for : ℕ → ℕ
@@ -32,7 +32,7 @@ ReadsMore old new = (tracks : List ℕ) × LogsReads old tracks new
 pub record CanRead (count : ℕ) (object : Object) (s : Stand) : Type 0 where
   pub words : object.words ≤ 2 ^ 24
   pub in_room : object.first_track + tracks_for object.words ≤ s.room
-  pub references : taken s.recent + count ≤ 2 ^ 120
+  pub references : references_taken s.recent + count ≤ 2 ^ 120
   pub transfers : s.places.transfers + count ≤ 2 ^ 120
 
 -- at most so many words of the object were read
@@ -43,6 +43,6 @@ pub record Reads (count : ℕ) (object : Object) (old new : Stand) : Type 0 wher
   pub faults : old.faults ≤ new.faults
   pub places : new.places.places ≡ old.places.places
   pub transfers : new.places.transfers ≤ old.places.transfers + count
-  pub references : taken new.recent ≤ taken old.recent + count
+  pub references : references_taken new.recent ≤ references_taken old.recent + count
   pub settings : KeepsSettings old.trace new.trace
   pub noted : tracks_for object.words ≤ old.trace.tracks → AreTracks old.trace → AreTracks new.trace

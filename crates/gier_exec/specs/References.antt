@@ -8,7 +8,7 @@ use Rattle.gier_order.specs.Misses.{misses}
 use Rattle.gier_order.specs.declared.object.Object.{Object}
 use Rattle.gier_order.specs.Flat.Row.{Regs, Ended as HasEnded, Alarmed, NoSteps, Step, On, Ends, Odd as OddStep, Row, behind_ref, odd}
 use Rattle.gier_places.specs.Contents.{Agrees, LogsReads, StandsFor as PlacesFor}
-use Rattle.gier_best.specs.Traced.{HasNoted}
+use Rattle.gier_best.specs.TraceModel.{HasNoted}
 use Rattle.gier_exec.specs.Reading.{Stand}
 use Rattle.gier_exec.specs.Rows.{track_words, track_of, shown}
 use Rattle.gier_exec.specs.declared.stop.Stop.{Stop}

@@ -58,7 +58,7 @@ const WANTED: u32 = 4;
 const VALUE: u32 = 5;
 
 /// Enters a procedure: charges the step, then takes the room.
-#[tactic(auto, using(crate::proofs::Falling::paid_falls, crate::proofs::Sizes::length_called))]
+#[tactic(auto, using(crate::proofs::MeasureFalls::paid_falls, crate::proofs::Sizes::length_called))]
 pub(crate) fn enter_procedure(
     m: &mut Machine,
     frames: &mut Frames,
@@ -109,7 +109,7 @@ pub(crate) fn enter_procedure(
 }
 
 /// Enters an evaluation: charges the step, then takes the room. With the alarm `assignment` it was entered.
-#[tactic(auto, using(crate::proofs::Falling::paid_falls, crate::proofs::Sizes::length_begun, crate::proofs::Sizes::begun_odd))]
+#[tactic(auto, using(crate::proofs::MeasureFalls::paid_falls, crate::proofs::Sizes::length_begun, crate::proofs::Sizes::begun_odd))]
 pub(crate) fn enter_evaluation(
     m: &mut Machine,
     frames: &mut Frames,
@@ -213,7 +213,7 @@ pub(crate) fn leave_evaluation(
 }
 
 /// GIVE: leaves the evaluation of a variable with its value or its place.
-#[tactic(auto, using(crate::proofs::Falling::paid_falls))]
+#[tactic(auto, using(crate::proofs::MeasureFalls::paid_falls))]
 pub(crate) fn leave_variable(m: &mut Machine, frames: &mut Frames, words: u32) -> Result<u32, Stop>
     ensures row { (code input : List ℕ) (l a : ℕ) → frames.old.entered ≡ true → length code ≡ words
         → Comes (effect code (length frames.old.words) (regs_of m.old frames.old input) Give l a) (regs_of m.new frames.new input)
@@ -253,7 +253,7 @@ pub(crate) fn wanted_now(frames: &Frames) -> Result<Wanted, Stop>
 }
 
 // Leaves the current activation, with this value for R.
-#[tactic(auto, using(crate::proofs::Falling::paid_falls))]
+#[tactic(auto, using(crate::proofs::MeasureFalls::paid_falls))]
 fn leave(m: &mut Machine, frames: &mut Frames, value: u64, words: u32) -> Result<u32, Stop>
     requires { value < 2 ^ 40 }
     ensures row { (code input : List ℕ) → frames.old.entered ≡ true → length code ≡ words

@@ -4,7 +4,7 @@ ghost use Rattle.gier_frames.specs.State.{IsKept};
 ghost use Rattle.gier_places.specs.Contents.{Agrees};
 ghost use Rattle.gier_order.specs.Flat.Row.{Regs, Row, odd};
 ghost use Rattle.gier_order.specs.Flat.Rows.{effect, word_at, reads_order, reads_count, reads_procedure, calls_bare, calls_kinded};
-ghost use Rattle.gier_order.specs.Flat.Kinds.{Handed, Bare, Kinded, Neither, handed};
+ghost use Rattle.gier_order.specs.Flat.Kinds.{Handed, Bare, Kinded, Neither, formals_handed};
 ghost use Rattle.gier_order.specs.declared.order.Order.{Order};
 ghost use Rattle.gier_order.specs.declared.operation.Operation.TheVariants.{Call, Formal, CallF};
 ghost use Rattle.gier_exec.specs.Rows.{regs_of, code_in};
@@ -314,7 +314,7 @@ fn find_bare<D: Drum>(
         → Searches object.now (seen D.room D.tracks D.journal D.faults drum.old places.old recent.old trace.old)
         (seen D.room D.tracks D.journal D.faults drum.new places.new recent.new trace.new)
         (reads_order (code_in tracks object.now) size regs address
-        (λ head. calls_bare (code_in tracks object.now) size regs address place head (handed head))) regs
+        (λ head. calls_bare (code_in tracks object.now) size regs address place head (formals_handed head))) regs
         (λ entry. word_at (code_in tracks object.now) size regs place
         (λ outer. entering (code_in tracks object.now) size regs (record entry { outer = outer }))) result }
     ensures from { IfOk result (λ entry. entry.from ≡ 0) }
@@ -339,7 +339,7 @@ fn find_bare<D: Drum>(
 
 /// How many formals a procedure has that is handed over; PROC tells none, and KINDS from 1 to 80. Odd elsewhere.
 pub(crate) fn formals_of(head: Order) -> Result<Option<u8>, Stop>
-    ensures value { result ≡ formals_in (handed head) }
+    ensures value { result ≡ formals_in (formals_handed head) }
     ensures few { IfOk result (λ found. IfSome found (λ n. n ≤ 80)) }
     ensures level { IfOk result (λ found. IfSome found (λ n. n ≡ head.level)) }
     ensures some { IfOk result (λ found. IfSome found (λ n. 1 ≤ n)) }
@@ -368,7 +368,7 @@ pub(crate) fn fetch_kinds<D: Drum>(
         → Agrees (Some tracks) places.old.held
         → Searches object.now (seen D.room D.tracks D.journal D.faults drum.old places.old recent.old trace.old)
         (seen D.room D.tracks D.journal D.faults drum.new places.new recent.new trace.new)
-        (reads_order (code_in tracks object.now) size regs address (λ head. go head (handed head))) regs
+        (reads_order (code_in tracks object.now) size regs address (λ head. go head (formals_handed head))) regs
         (λ kinds. go kinds (Kinded kinds.level)) result }
     ensures order { IfOk result IsOrder }
     ensures some { IfOk result (λ order. 1 ≤ order.level) }
@@ -451,7 +451,7 @@ fn find_kinded<D: Drum>(
         → Searches object.now (seen D.room D.tracks D.journal D.faults drum.old places.old recent.old trace.old)
         (seen D.room D.tracks D.journal D.faults drum.new places.new recent.new trace.new)
         (reads_order (code_in tracks object.now) size regs address
-        (λ kinds. calls_kinded (code_in tracks object.now) size regs place kinds (handed kinds))) regs
+        (λ kinds. calls_kinded (code_in tracks object.now) size regs place kinds (formals_handed kinds))) regs
         (λ entry. word_at (code_in tracks object.now) size regs place
         (λ outer. entering (code_in tracks object.now) size regs (record entry { outer = outer; from = regs.r }))) result }
     ensures found { IfOk result (λ entry. entry.next < object.now.words) }

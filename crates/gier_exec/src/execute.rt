@@ -14,7 +14,7 @@ ghost use Rattle.gier_io.specs.Device.{Puts};
 ghost use Rattle.gier_library.specs.Data.{Takes};
 ghost use Rattle.gier_exec.specs.Numbers.{is_jump, is_plain, is_start};
 ghost use Rattle.gier_word.specs.Cause.{HasRisen};
-ghost use Rattle.gier_library.specs.Seen.{source_of, ended, stand_of};
+ghost use Rattle.gier_library.specs.DataView.{source_of, has_ended, stand_of};
 ghost use Rattle.gier_order.specs.Codes.{IsOrder};
 ghost use Rattle.gier_exec.specs.Registers.{Keeps, Goes};
 ghost use Rattle.gier_exec.specs.Reading.{CanRead, Reads, seen};
@@ -63,7 +63,7 @@ pub(crate) fn execute<D: Drum, S: Source, K: Sink>(
         (seen D.room D.tracks D.journal D.faults drum.old places.old recent.old trace.old)
         (seen D.room D.tracks D.journal D.faults drum.new places.new recent.new trace.new)
         × Puts (K.holds out.old) put (K.holds out.new) × Takes (stand_of S.left input.old) taken (stand_of S.left input.new)
-        × ((rest : List ℕ) → IsRest (ended input.new) rest
+        × ((rest : List ℕ) → IsRest (has_ended input.new) rest
         → Obeys (does (code_in tracks object.now) (length frames.old.words) (regs_of m.old frames.old (taken ++ rest)) order
         (operation_at order.op)) (regs_of m.old frames.old (taken ++ rest)) (regs_of m.new frames.new rest) read put taken
         result) }
@@ -128,7 +128,7 @@ fn is_entered(frames: &Frames) -> bool
 }
 
 // LIB.
-#[tactic(auto, using(crate::proofs::Falling::lighter_falls))]
+#[tactic(auto, using(crate::proofs::MeasureFalls::lighter_falls))]
 fn procedure<D: Drum, S: Source, K: Sink>(
     m: &mut Machine,
     frames: &Frames,
@@ -149,7 +149,7 @@ fn procedure<D: Drum, S: Source, K: Sink>(
         (seen D.room D.tracks D.journal D.faults drum.old places.old recent.old trace.old)
         (seen D.room D.tracks D.journal D.faults drum.new places.new recent.new trace.new)
         × Puts (K.holds out.old) put (K.holds out.new) × Takes (stand_of S.left input.old) taken (stand_of S.left input.new)
-        × ((rest : List ℕ) (l : ℕ) → IsRest (ended input.new) rest
+        × ((rest : List ℕ) (l : ℕ) → IsRest (has_ended input.new) rest
         → Obeys (needs frames.now.entered (effect (code_in tracks object.now) (length frames.now.words)
         (regs_of m.old frames.now (taken ++ rest)) Lib l number)) (regs_of m.old frames.now (taken ++ rest))
         (regs_of m.new frames.now rest) read put taken result) }
@@ -298,7 +298,7 @@ fn choose_next(
 
 // The orders that read nothing of the object and go on with the next one.
 #[inline(always)]
-#[tactic(auto, using(crate::proofs::Falling::lighter_falls))]
+#[tactic(auto, using(crate::proofs::MeasureFalls::lighter_falls))]
 fn go_on(
     m: &mut Machine,
     frames: &mut Frames,
@@ -327,7 +327,7 @@ fn go_on(
 }
 
 // LONG: R := the word behind the order, which is passed over.
-#[tactic(auto, using(crate::proofs::Falling::lighter_falls))]
+#[tactic(auto, using(crate::proofs::MeasureFalls::lighter_falls))]
 fn long<D: Drum>(
     m: &mut Machine,
     object: &Object,

@@ -1,7 +1,7 @@
 // Single words of the frames, as the orders read and write them.
 ghost use Rattle.std.specs.Prelude.{◌≡◌, ◌+◌, ◌<◌, ◌≤◌, ◌^◌, ◌&&◌, ℕ, true, nat_lt, nat_le, List, Ok, Err, IfOk, OnErr, length, slice_index};
 ghost use Rattle.gier_frames.specs.Refusals.{is_call};
-ghost use Rattle.gier_frames.specs.Effects.{written};
+ghost use Rattle.gier_frames.specs.Effects.{after_write};
 ghost use Rattle.gier_order.specs.Flat.Row.{Row};
 ghost use Rattle.gier_order.specs.Flat.Rows.{word_at, local as local_row, in_level, cell_pair};
 ghost use Rattle.gier_exec.specs.Registers.{Registers};
@@ -14,7 +14,7 @@ use gier_frames::{Frames, Halt};
 
 /// The word at an address of the current activation.
 #[inline(always)]
-#[tactic(auto, using(crate::proofs::Founds::here_refused))]
+#[tactic(auto, using(crate::proofs::FrameReads::here_refused))]
 pub(crate) fn local(frames: &Frames, address: u32) -> Result<u64, Stop>
     ensures small { IfOk result (λ word. word < 2 ^ 40) }
     ensures found { frames.now.entered ≡ true → result ≡ word_of frames.now (frames.now.base + address) }
@@ -29,7 +29,7 @@ pub(crate) fn local(frames: &Frames, address: u32) -> Result<u64, Stop>
 
 /// The word at a place.
 #[inline(always)]
-#[tactic(auto, using(crate::proofs::Founds::word_refused))]
+#[tactic(auto, using(crate::proofs::FrameReads::word_refused))]
 pub(crate) fn read(frames: &Frames, place: u64) -> Result<u64, Stop>
     ensures small { IfOk result (λ word. word < 2 ^ 40) }
     ensures found { frames.now.entered ≡ true → result ≡ word_of frames.now place }
@@ -44,7 +44,7 @@ pub(crate) fn read(frames: &Frames, place: u64) -> Result<u64, Stop>
 
 /// The place at an address in the visible activation of a level.
 #[inline(always)]
-#[tactic(auto, using(crate::proofs::Founds::cell_found, crate::proofs::Founds::cell_refused, crate::proofs::Founds::cell_small))]
+#[tactic(auto, using(crate::proofs::FrameReads::cell_found, crate::proofs::FrameReads::cell_refused, crate::proofs::FrameReads::cell_small))]
 pub(crate) fn place_of(frames: &Frames, level: u8, address: u32) -> Result<u64, Stop>
     ensures small { IfOk result (λ place. place < 2 ^ 40) }
     ensures row { (code input : List ℕ) (m : Registers) (go : ℕ → Row) → frames.now.entered ≡ true
@@ -59,7 +59,7 @@ pub(crate) fn place_of(frames: &Frames, level: u8, address: u32) -> Result<u64, 
 
 /// The place at an address in the current activation.
 #[inline(always)]
-#[tactic(auto, using(crate::proofs::Founds::here_refused, crate::proofs::Founds::here_small))]
+#[tactic(auto, using(crate::proofs::FrameReads::here_refused, crate::proofs::FrameReads::here_small))]
 pub(crate) fn here(frames: &Frames, address: u32) -> Result<u64, Stop>
     ensures small { IfOk result (λ place. place < 2 ^ 40) }
     ensures place { frames.now.entered ≡ true → result ≡ Ok (frames.now.base + address) }
@@ -112,7 +112,7 @@ pub(crate) fn write(frames: &mut Frames, place: u64, word: u64) -> Result<(), St
     ensures size { length frames.new.words ≡ length frames.old.words }
     ensures odd { OnErr result (frames.new ≡ frames.old) }
     ensures writes { frames.old.entered ≡ true → place < length frames.old.words → (result ≡ Ok tt)
-        × (frames.new ≡ written frames.old place word) }
+        × (frames.new ≡ after_write frames.old place word) }
     ensures refused { length frames.old.words ≤ place → result ≡ Err Odd }
 {
     match frames.set(place, word) {

@@ -44,7 +44,7 @@ pub(crate) fn jump_if_false(m: &Machine, address: u32, words: u32) -> Result<u32
 
 /// TURN: charges a step and goes on at w.
 #[inline(always)]
-#[tactic(auto, using(crate::proofs::Falling::paid_falls))]
+#[tactic(auto, using(crate::proofs::MeasureFalls::paid_falls))]
 pub(crate) fn turn(m: &mut Machine, frames: &Frames, address: u32, words: u32) -> Result<u32, Stop>
     ensures row { (code input : List ℕ) (l : ℕ) → frames.now.entered ≡ true → length code ≡ words
         → Comes (effect code (length frames.now.words) (regs_of m.old frames.now input) Turn l address)
@@ -87,7 +87,7 @@ pub(crate) fn go(m: &mut Machine, frames: &mut Frames, words: u32) -> Result<u32
     }
 }
 
-#[tactic(auto, using(crate::proofs::Falling::paid_falls))]
+#[tactic(auto, using(crate::proofs::MeasureFalls::paid_falls))]
 fn go_to(m: &mut Machine, frames: &mut Frames, next: u32, words: u32) -> Result<u32, Stop>
     requires { next < words }
     ensures row { (code input : List ℕ) → frames.old.entered ≡ true → length code ≡ words → next ≡ m.old.r

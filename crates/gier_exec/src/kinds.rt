@@ -4,7 +4,7 @@ ghost use Rattle.gier_agree.specs.Packed.{kind_in};
 ghost use Rattle.gier_places.specs.Contents.{Agrees};
 ghost use Rattle.gier_order.specs.Flat.Row.{Regs, Row, needs, reads as reads_row};
 ghost use Rattle.gier_order.specs.Flat.Rows.{effect, cell_word, goes as goes_row, is_address, reads_order, agrees as agrees_row, agrees_with};
-ghost use Rattle.gier_order.specs.Flat.Kinds.{groups_for, handed, is_packed, is_field, all_fit};
+ghost use Rattle.gier_order.specs.Flat.Kinds.{groups_for, formals_handed, is_packed, is_field, all_fit};
 ghost use Rattle.gier_order.specs.declared.operation.Operation.TheVariants.{Agree, ByVal};
 ghost use Rattle.gier_exec.specs.Rows.{regs_of, code_in};
 ghost use Rattle.gier_exec.specs.Following.{Gets};
@@ -136,7 +136,7 @@ fn match_count<D: Drum>(
         → Searches object.now (seen D.room D.tracks D.journal D.faults drum.old places.old recent.old trace.old)
         (seen D.room D.tracks D.journal D.faults drum.new places.new recent.new trace.new)
         (reads_order (code_in tracks object.now) size regs address
-        (λ head. agrees_with (code_in tracks object.now) size regs address list count (handed head))) regs
+        (λ head. agrees_with (code_in tracks object.now) size regs address list count (formals_handed head))) regs
         (λ done. needs (is_address (code_in tracks object.now) size regs (list + groups_for count))
         (agrees_row (code_in tracks object.now) size regs (groups_for count) (address + 1) list count)) result }
     ensures few { OnOk result (count ≤ 80) }

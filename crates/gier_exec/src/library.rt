@@ -5,7 +5,7 @@ ghost use Rattle.gier_word.specs.Words.{int_of_word};
 ghost use Rattle.gier_word.specs.Standard.{integer_text, character_text, integer_read, character_read};
 ghost use Rattle.gier_io.specs.Device.{Puts};
 ghost use Rattle.gier_library.specs.Data.{Takes};
-ghost use Rattle.gier_library.specs.Seen.{source_of, ended, stand_of};
+ghost use Rattle.gier_library.specs.DataView.{source_of, has_ended, stand_of};
 ghost use Rattle.gier_frames.specs.State.{State};
 ghost use Rattle.gier_places.specs.Contents.{Agrees};
 ghost use Rattle.gier_order.specs.Flat.Row.{Regs, Row, reads, behind_bytes};
@@ -75,7 +75,7 @@ pub(crate) fn library<D: Drum, S: Source, K: Sink>(
         (seen D.room D.tracks D.journal D.faults drum.old places.old recent.old trace.old)
         (seen D.room D.tracks D.journal D.faults drum.new places.new recent.new trace.new)
         × Puts (K.holds out.old) put (K.holds out.new) × Takes (stand_of S.left input.old) taken (stand_of S.left input.new)
-        × ((s : State) (rest : List ℕ) → IsRest (ended input.new) rest
+        × ((s : State) (rest : List ℕ) → IsRest (has_ended input.new) rest
         → Obeys (procedure (code_in tracks object.now) (length s.words) (regs_of m.old s (taken ++ rest)) number)
         (regs_of m.old s (taken ++ rest)) (regs_of m.new s rest) read put taken (on_from m.old.place result)) }
     ensures keeps { Keeps m.old m.new }
@@ -162,7 +162,7 @@ fn print_bytes<K: Sink>(bytes: &[u8], out: &mut K) -> Result<(), Quit>
 // `ininteger`.
 fn take_integer<S: Source>(m: &mut Machine, input: &mut Data<S>) -> Result<(), Quit>
     ensures takes { (bytes : List ℕ) × Takes (stand_of S.left input.old) bytes (stand_of S.left input.new)
-        × Receives integer_read bytes (ended input.new) m.old result m.new }
+        × Receives integer_read bytes (has_ended input.new) m.old result m.new }
     ensures homely { result ≢ Err (Missed DrumFailed) }
     ensures no_write { result ≢ Err Write }
     ensures keeps { Keeps m.old m.new }
@@ -185,7 +185,7 @@ fn take_integer<S: Source>(m: &mut Machine, input: &mut Data<S>) -> Result<(), Q
 // `inchar`.
 fn take_character<S: Source>(m: &mut Machine, input: &mut Data<S>) -> Result<(), Quit>
     ensures takes { (bytes : List ℕ) × Takes (stand_of S.left input.old) bytes (stand_of S.left input.new)
-        × Receives character_read bytes (ended input.new) m.old result m.new }
+        × Receives character_read bytes (has_ended input.new) m.old result m.new }
     ensures homely { result ≢ Err (Missed DrumFailed) }
     ensures no_write { result ≢ Err Write }
     ensures keeps { Keeps m.old m.new }

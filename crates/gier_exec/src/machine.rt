@@ -149,7 +149,7 @@ impl Machine {
 
     // An address ahead to go on at; odd where it isn't one of the object's.
     #[inline(always)]
-    #[tactic(auto, using(crate::proofs::Falling::ahead_falls))]
+    #[tactic(auto, using(crate::proofs::MeasureFalls::ahead_falls))]
     pub(crate) fn ahead(&self, next: u64, words: u32) -> Result<u32, Stop>
         requires { self.now.place < next }
         ensures goes { IfOk result (λ address. (address ≡ next) × Goes words self.now address self.now) }

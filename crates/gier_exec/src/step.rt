@@ -8,9 +8,9 @@ ghost use Rattle.gier_exec.specs.Turning.{IsRest, Follows, turned};
 ghost use Rattle.gier_io.specs.Device.{Puts};
 ghost use Rattle.gier_library.specs.Data.{Takes};
 ghost use Rattle.gier_word.specs.Cause.{HasRisen};
-ghost use Rattle.gier_order.specs.Counts.{taken};
-ghost use Rattle.gier_library.specs.Seen.{source_of, ended, stand_of};
-ghost use Rattle.gier_best.specs.Traced.{AreTracks, KeepsSettings};
+ghost use Rattle.gier_order.specs.Counts.{references_taken};
+ghost use Rattle.gier_library.specs.DataView.{source_of, has_ended, stand_of};
+ghost use Rattle.gier_best.specs.TraceModel.{AreTracks, KeepsSettings};
 ghost use Rattle.gier_exec.specs.Registers.{measure};
 ghost use Rattle.gier_exec.specs.Reading.{tracks_for, ReadsMore, seen};
 ghost use Rattle.gier_exec.specs.declared.turn.Turn.TheVariants.{On, Read, Write, Drum as DrumFailed, Spoilt};
@@ -53,7 +53,7 @@ pub fn step_order<D: Drum, S: Source, K: Sink>(
     requires place { m.old.place < object.now.words }
     requires words { object.now.words ≤ 2 ^ 24 }
     requires in_room { object.now.first_track + tracks_for object.now.words ≤ D.room drum.old }
-    requires references { taken recent.old < 2 ^ 119 }
+    requires references { references_taken recent.old < 2 ^ 119 }
     requires transfers { places.old.transfers < 2 ^ 119 }
     ensures on { result ≡ On → m.new.place < object.now.words }
     ensures stays { result ≢ On → m.new.place ≡ m.old.place }
@@ -61,17 +61,17 @@ pub fn step_order<D: Drum, S: Source, K: Sink>(
         × ((frames.new ≡ frames.old) × ((out.new ≡ out.old) × (input.new ≡ input.old))) }
     ensures order { (odd : Odd) → result ≡ Spoilt odd → odd.place ≡ m.old.place }
     ensures row { (tracks : List (List ℕ)) → D.tracks drum.old ≡ Some tracks → Agrees (Some tracks) places.old.held
-        → (read put taken : List ℕ) × Refers object.now read
+        → (read put references_taken : List ℕ) × Refers object.now read
         (seen D.room D.tracks D.journal D.faults drum.old places.old recent.old trace.old)
         (seen D.room D.tracks D.journal D.faults drum.new places.new recent.new trace.new)
-        × Puts (K.holds out.old) put (K.holds out.new) × Takes (stand_of S.left input.old) taken (stand_of S.left input.new)
-        × ((rest : List ℕ) → IsRest (ended input.new) rest
+        × Puts (K.holds out.old) put (K.holds out.new) × Takes (stand_of S.left input.old) references_taken (stand_of S.left input.new)
+        × ((rest : List ℕ) → IsRest (has_ended input.new) rest
         → Follows (row_of_order (code_in tracks object.now) (length frames.old.words)
-        (regs_of m.old frames.old (taken ++ rest))) (regs_of m.old frames.old (taken ++ rest)) (regs_of m.new frames.new rest)
-        read put taken m.old.place (word_in tracks object.now m.old.place) result) }
+        (regs_of m.old frames.old (references_taken ++ rest))) (regs_of m.old frames.old (references_taken ++ rest)) (regs_of m.new frames.new rest)
+        read put references_taken m.old.place (word_in tracks object.now m.old.place) result) }
     ensures measure { result ≡ On → measure object.now.words m.new < measure object.now.words m.old }
     ensures steps { m.new.steps ≤ m.old.steps }
-    ensures references { taken recent.new ≤ taken recent.old + 2 * object.now.words + 2 }
+    ensures references { references_taken recent.new ≤ references_taken recent.old + 2 * object.now.words + 2 }
     ensures transfers { places.new.transfers ≤ places.old.transfers + 2 * object.now.words + 2 }
     ensures places { places.new.places ≡ places.old.places }
     ensures frames { length frames.new.words ≡ length frames.old.words }

@@ -1,4 +1,4 @@
-pub mod Seeking
-pub mod Displaying
+pub mod WalkStep
+pub mod DisplayBuild
 pub mod Extents
-pub mod Counting
+pub mod WalkLength

@@ -12,9 +12,9 @@ pub record Shown : Type 0 where
   pub size : ℕ
 
 -- the base that a level's number stands for
-abbrev pub answered : ℕ → Result ℕ Halt
-answered zero = Err Odd
-answered (suc base) = Ok base
+abbrev pub base_or_halt : ℕ → Result ℕ Halt
+base_or_halt zero = Err Odd
+base_or_halt (suc base) = Ok base
 
 -- the same, where more is to come
 abbrev pub answered_or : ℕ → Result ℕ Halt → Result ℕ Halt
@@ -22,8 +22,8 @@ answered_or zero rest = rest
 answered_or (suc base) rest = Ok base
 
 -- the levels with an activation that the walk came by
-abbrev pub noted : List ℕ → ℕ → ℕ → List ℕ
-noted by_level level base = if nat_lt level 256 then (if slice_index by_level level == 0 then slice_set by_level level (suc base) else by_level) else by_level
+abbrev pub with_levels_noted : List ℕ → ℕ → ℕ → List ℕ
+with_levels_noted by_level level base = if nat_lt level 256 then (if slice_index by_level level == 0 then slice_set by_level level (suc base) else by_level) else by_level
 
 -- each marked word stays so
 abbrev pub KeepsLit : List ℕ → List ℕ → Type 0
@@ -37,7 +37,7 @@ AreLit (suc looks) words lit base = base + 1 < length words
 
 -- the display of the activation at a base
 pub record Shows (shown : Shown) (words : List ℕ) (base : ℕ) : Type 0 where
-  pub answers : (level : ℕ) → level < 256 → answered (slice_index shown.by_level level) ≡ sought (suc base) words level base
+  pub answers : (level : ℕ) → level < 256 → base_or_halt (slice_index shown.by_level level) ≡ sought (suc base) words level base
   pub marks : AreLit (suc base) words shown.lit base
 
 -- a walk from a first base came to another

@@ -5,15 +5,15 @@ use Rattle.gier_frames.specs.declared.halt.Halt.{Halt}
 use Rattle.gier_frames.specs.declared.halt.Halt.TheVariants.{Alarm, Odd}
 
 -- the whole number that a word stands for, and 2^39 more, so that none is negative
-abbrev pub lifted : ℕ → ℕ
-lifted word = if nat_lt word 549755813888 then word + 549755813888 else word - 549755813888
+abbrev pub excess_number : ℕ → ℕ
+excess_number word = if nat_lt word 549755813888 then word + 549755813888 else word - 549755813888
 
 -- the i-th lower and upper bound of a list of pairs from a place on
 abbrev pub lower : List ℕ → ℕ → ℕ → ℕ
-lower words at i = lifted (slice_index words (at + 2 * i))
+lower words at i = excess_number (slice_index words (at + 2 * i))
 
 abbrev pub upper : List ℕ → ℕ → ℕ → ℕ
-upper words at i = lifted (slice_index words (at + 2 * i + 1))
+upper words at i = excess_number (slice_index words (at + 2 * i + 1))
 
 -- how many subscripts a pair of bounds allows
 abbrev pub extent : List ℕ → ℕ → ℕ → ℕ
@@ -31,7 +31,7 @@ elements words at (suc d) = elements words at d * extent words at d
 
 -- the i-th subscript
 abbrev pub subscript : List ℕ → ℕ → ℕ → ℕ
-subscript words from i = lifted (slice_index words (from + i))
+subscript words from i = excess_number (slice_index words (from + i))
 
 -- whether each of d subscripts lies within its bounds
 abbrev pub are_within : List ℕ → ℕ → ℕ → ℕ → Bool
@@ -44,14 +44,14 @@ offset words at from zero = 0
 offset words at from (suc d) = offset words at from d * extent words at d + (subscript words from d - lower words at d)
 
 -- the place at an element's number, where it is one of the stack's
-abbrev pub placed : ℕ → ℕ → Result ℕ Halt
-placed place size = if nat_lt place size then Ok place else Err Odd
+abbrev pub element_place : ℕ → ℕ → Result ℕ Halt
+element_place place size = if nat_lt place size then Ok place else Err Odd
 
 -- the element of an array whose descriptor stands at `base`, by d subscripts
 abbrev pub element_in : List ℕ → ℕ → ℕ → ℕ → Result ℕ Halt
 element_in words d base from =
     if nat_le (base + 2 + 2 * d) (length words)
-    then (if are_within words (base + 2) from d then placed (slice_index words base + offset words (base + 2) from d) (length words) else Err (Alarm Subscript))
+    then (if are_within words (base + 2) from d then element_place (slice_index words base + offset words (base + 2) from d) (length words) else Err (Alarm Subscript))
     else Err Odd
 
 -- the same, where the number of subscripts is first compared with the descriptor's

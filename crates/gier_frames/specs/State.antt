@@ -16,8 +16,8 @@ abbrev pub fresh : ℕ → State
 fresh size = record { words = replicate size 0; marks = replicate size 0; base = 0; top = 0; greatest = 0; entered = false }
 
 -- no activation any more, and all words 0
-abbrev pub cleared : State → State
-cleared s = fresh (length s.words)
+abbrev pub all_zero : State → State
+all_zero s = fresh (length s.words)
 
 -- what all frames keep: fewer than 2^24 words, as many marks, a top no further than their end, and a base that is a place
 pub record IsKept (s : State) : Type 0 where

@@ -2,9 +2,9 @@
 use Rattle.std.specs.Prelude.{◌+◌, ◌++◌, ℕ, zero, suc, List, [], ◌∷◌, slice_index, slice_set}
 
 -- n words from a place on made 0
-abbrev pub zeroed : List ℕ → ℕ → ℕ → List ℕ
-zeroed words at zero = words
-zeroed words at (suc n) = slice_set (zeroed words at n) (at + n) 0
+abbrev pub with_zeros : List ℕ → ℕ → ℕ → List ℕ
+with_zeros words at zero = words
+with_zeros words at (suc n) = slice_set (with_zeros words at n) (at + n) 0
 
 -- the n words from a place on
 abbrev pub words_from : List ℕ → ℕ → ℕ → List ℕ
@@ -12,9 +12,9 @@ words_from words at zero = []
 words_from words at (suc n) = words_from words at n ++ slice_index words (at + n) ∷ []
 
 -- the first n values written from a place on
-abbrev pub poured : List ℕ → ℕ → List ℕ → ℕ → List ℕ
-poured words at values zero = words
-poured words at values (suc n) = slice_set (poured words at values n) (at + n) (slice_index values n)
+abbrev pub with_values : List ℕ → ℕ → List ℕ → ℕ → List ℕ
+with_values words at values zero = words
+with_values words at values (suc n) = slice_set (with_values words at values n) (at + n) (slice_index values n)
 
 -- two words written side by side
 abbrev pub with_two : List ℕ → ℕ → ℕ → ℕ → List ℕ

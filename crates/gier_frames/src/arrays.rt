@@ -5,7 +5,7 @@ ghost use Rattle.gier_frames.specs.Refusals.{is_array, array_refusal, elements_r
 ghost use Rattle.gier_frames.specs.Effects.{with_array, array_words};
 ghost use Rattle.gier_frames.specs.Numbers.{elements};
 ghost use Rattle.gier_frames.specs.Walk.{element_of};
-ghost use Rattle.gier_frames.specs.Writes.{zeroed, words_from, poured, with_two};
+ghost use Rattle.gier_frames.specs.Writes.{with_zeros, words_from, with_values, with_two};
 
 use crate::bounds::{MOST_DIMENSIONS, count_elements, element, have_order};
 use crate::{Frames, Halt, writes};
@@ -104,7 +104,7 @@ fn make_array(words: &mut Region, bounds: &Vec<u64>, d: u64, place: u64, top: u6
     requires top { top + count ≤ length words.old.words }
     requires small { (k : ℕ) → slice_index bounds.now.items k < 2 ^ 40 }
     requires limit { length words.old.words < 2 ^ 24 }
-    ensures words { words.new.words ≡ poured (with_two (zeroed words.old.words top count) place top d) (place + 2) bounds.now.items
+    ensures words { words.new.words ≡ with_values (with_two (with_zeros words.old.words top count) place top d) (place + 2) bounds.now.items
         (length bounds.now.items) }
     ensures size { length words.new.words ≡ length words.old.words }
 {

@@ -1,6 +1,6 @@
 // The bounds and subscripts of arrays as they stand in the words of a region.
 ghost use Rattle.std.specs.Prelude.{◌≡◌, ◌+◌, ◌*◌, ◌<◌, ◌≤◌, ◌^◌, ◌&&◌, nat_le, MatchOption, length, slice_index};
-ghost use Rattle.gier_frames.specs.Numbers.{lifted, lower, upper, extent, are_ordered, elements, subscript, are_within, offset, element_in, element_by, element_at};
+ghost use Rattle.gier_frames.specs.Numbers.{excess_number, lower, upper, extent, are_ordered, elements, subscript, are_within, offset, element_in, element_by, element_at};
 
 use crate::Halt;
 use crate::walk::BASES;
@@ -16,7 +16,7 @@ pub(crate) const MOST_DIMENSIONS: u64 = 30;
 // The number that a word at a place stands for, and 2^39 more.
 fn number_at(words: &Region, place: u64) -> u64
     requires { place < length words.now.words }
-    ensures value { result ≡ lifted (slice_index words.now.words place) }
+    ensures value { result ≡ excess_number (slice_index words.now.words place) }
     ensures range { result < 2 ^ 40 }
 {
     let word = words.get(place);

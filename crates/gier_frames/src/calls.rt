@@ -2,7 +2,7 @@
 ghost use Rattle.std.specs.Prelude.{◌≡◌, ◌+◌, ◌*◌, ◌/◌, ◌%◌, ◌<◌, ◌≤◌, ◌^◌, ℕ, length, slice_index, slice_set, vec_capacity, IfOk, OnOk, OnErr};
 ghost use Rattle.gier_frames.specs.Answers.{Answers};
 ghost use Rattle.gier_frames.specs.Refusals.{is_call, call_refusal, back_refusal, go_refusal};
-ghost use Rattle.gier_frames.specs.Effects.{called, call_words, went_back, gone};
+ghost use Rattle.gier_frames.specs.Effects.{after_call, call_words, went_back, after_go};
 
 use crate::frames::admit;
 use crate::walk::BASES;
@@ -36,7 +36,7 @@ impl Frames {
         count: u32,
     ) -> Result<(), Halt>
         ensures refused { Answers (call_refusal self.old room outer from count) result }
-        ensures effect { OnOk result (self.new ≡ called self.old level room outer back wanted from count) }
+        ensures effect { OnOk result (self.new ≡ after_call self.old level room outer back wanted from count) }
         ensures err { OnErr result (self.new ≡ self.old) }
     {
         let room = u64::from(room);
@@ -92,7 +92,7 @@ impl Frames {
     /// Odd where there is no activation, or where that word isn't in the stack or is above its size.
     pub fn go(&mut self, base: u64) -> Result<(), Halt>
         ensures refused { Answers (go_refusal self.old base) result }
-        ensures effect { OnOk result (self.new ≡ gone self.old base) }
+        ensures effect { OnOk result (self.new ≡ after_go self.old base) }
         ensures err { OnErr result (self.new ≡ self.old) }
     {
         let size = self.words.size();

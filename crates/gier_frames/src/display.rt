@@ -1,7 +1,7 @@
 // The visible activations by level, so that one is found without a walk, and the words that tell which these are.
 // Nothing here changes a word of the stack, nor asks when the display must be built anew.
 ghost use Rattle.std.specs.Prelude.{◌≡◌, ◌==◌, ◌+◌, ◌<◌, ◌≤◌, ◌^◌, ℕ, [], length, replicate, slice_index, slice_set, vec_capacity, IfOk};
-ghost use Rattle.gier_frames.specs.Display.{answered, noted, Shows, KeepsLit};
+ghost use Rattle.gier_frames.specs.Display.{base_or_halt, with_levels_noted, Shows, KeepsLit};
 
 use crate::Halt;
 use crate::walk::BASES;
@@ -40,7 +40,7 @@ impl Model for Display {
 
 impl Display {
     /// A display for so many words, fewer than 2^24, which shows no activation. It touches no memory but its own levels.
-    #[tactic(auto, using(crate::proofs::Displaying::none_at))]
+    #[tactic(auto, using(crate::proofs::DisplayBuild::none_at))]
     pub(crate) fn open(alloc: Global, words: u32) -> Result<Display, NoMemory>
         requires { words < 2 ^ 24 }
         ensures { IfOk result (λ display. display.size ≡ words) }
@@ -64,7 +64,7 @@ impl Display {
     /// The base of the visible activation of a level, and Odd where there is none.
     #[inline]
     pub(crate) fn find(&self, level: u8) -> Result<u64, Halt>
-        ensures base { result ≡ answered (slice_index self.now.by_level level) }
+        ensures base { result ≡ base_or_halt (slice_index self.now.by_level level) }
         ensures range { IfOk result (λ base. base < 2 ^ 32) }
     {
         let after = self.by_level[usize::from(level)];
@@ -75,7 +75,7 @@ impl Display {
     }
 
     /// Builds the display anew for the activation at a base.
-    #[tactic(auto, using(crate::proofs::Displaying::begin, crate::proofs::Displaying::step, crate::proofs::Displaying::ends, crate::proofs::Displaying::past))]
+    #[tactic(auto, using(crate::proofs::DisplayBuild::begin, crate::proofs::DisplayBuild::step, crate::proofs::DisplayBuild::ends, crate::proofs::DisplayBuild::past))]
     pub(crate) fn build(&mut self, words: &Region, base: u64)
         requires size { self.old.size ≡ length words.now.words }
         requires limit { length words.now.words < 2 ^ 24 }
@@ -141,7 +141,7 @@ impl Display {
     fn note(&mut self, base: u64, level: u64)
         requires base { base + 1 < self.old.size }
         requires room { length self.old.chain < self.old.size }
-        ensures by_level { self.new.by_level ≡ noted self.old.by_level level base }
+        ensures by_level { self.new.by_level ≡ with_levels_noted self.old.by_level level base }
         ensures chain { length self.new.chain ≡ length self.old.chain + 1 }
         ensures lit { slice_index self.new.lit (base + 1) ≡ 1 }
         ensures kept { KeepsLit self.old.lit self.new.lit }
@@ -155,7 +155,7 @@ impl Display {
     // Only the first activation of a level is visible.
     fn show(&mut self, base: u64, level: u64)
         requires { base < 2 ^ 24 }
-        ensures by_level { self.new.by_level ≡ noted self.old.by_level level base }
+        ensures by_level { self.new.by_level ≡ with_levels_noted self.old.by_level level base }
         ensures rest { self.new ≡ record self.old { by_level = self.new.by_level } }
     {
         if level >= LEVELS as u64 {

@@ -1,9 +1,9 @@
 // The frames: opening, the orders that enter and leave blocks, and reads and writes of single words.
 ghost use Rattle.std.specs.Prelude.{◌≡◌, ◌+◌, ◌*◌, ◌<◌, ◌≤◌, ◌^◌, ℕ, true, length, replicate, slice_index, slice_set, IfOk, OnOk, OnErr};
-ghost use Rattle.gier_frames.specs.State.{IsKept, fresh, cleared};
+ghost use Rattle.gier_frames.specs.State.{IsKept, fresh, all_zero};
 ghost use Rattle.gier_frames.specs.Answers.{Answers};
 ghost use Rattle.gier_frames.specs.Refusals.{start_refusal, block_refusal, leave_refusal, place_refusal, base_refusal, room_refusal, is_place, odd_unless};
-ghost use Rattle.gier_frames.specs.Effects.{entered_one, started, entered_block, left, written};
+ghost use Rattle.gier_frames.specs.Effects.{entered_one, after_start, entered_block, left, after_write};
 ghost use Rattle.gier_frames.specs.Walk.{cell_of};
 
 use crate::display::Display;
@@ -81,7 +81,7 @@ impl Frames {
     /// Odd where there is one or the room is below 3; the alarm `stack` where the room is above the number of words.
     pub fn start(&mut self, level: u8, room: u32) -> Result<(), Halt>
         ensures refused { Answers (start_refusal self.old room) result }
-        ensures effect { OnOk result (self.new ≡ started self.old level room) }
+        ensures effect { OnOk result (self.new ≡ after_start self.old level room) }
         ensures err { OnErr result (self.new ≡ self.old) }
     {
         admit(
@@ -135,7 +135,7 @@ impl Frames {
     /// The place at an address in the visible activation of a level, which need not be a place of the stack.
     ///
     /// Odd where none of this level is visible.
-    #[tactic(auto, using(crate::proofs::Displaying::shown_answers))]
+    #[tactic(auto, using(crate::proofs::DisplayBuild::shown_answers))]
     pub fn cell(&self, level: u8, address: u32) -> Result<u64, Halt>
         ensures value { result ≡ cell_of self.now level address }
         ensures kept { IsKept self.now }
@@ -186,7 +186,7 @@ impl Frames {
     pub fn set(&mut self, place: u64, word: u64) -> Result<(), Halt>
         requires { word < 2 ^ 40 }
         ensures refused { Answers (place_refusal self.old place) result }
-        ensures effect { OnOk result (self.new ≡ written self.old place word) }
+        ensures effect { OnOk result (self.new ≡ after_write self.old place word) }
         ensures err { OnErr result (self.new ≡ self.old) }
     {
         if !self.entered || place >= self.words.size() {
@@ -214,7 +214,7 @@ impl Frames {
 
     /// Leaves no activation, makes all words 0, and the top and its greatest value too.
     pub fn clear(&mut self)
-        ensures { self.new ≡ cleared self.old }
+        ensures { self.new ≡ all_zero self.old }
     {
         writes::reset(&mut self.words);
         writes::reset(&mut self.marks);

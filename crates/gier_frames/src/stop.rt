@@ -32,7 +32,7 @@ const LAST: u32 = u32::MAX;
 
 impl Frames {
     /// How many activations there are, the current one and those before it.
-    #[tactic(auto, using(crate::proofs::Counting::length_activations))]
+    #[tactic(auto, using(crate::proofs::WalkLength::length_activations))]
     pub fn count(&self) -> u32
         ensures { result ≡ length (activations self.now) }
     {
@@ -54,7 +54,7 @@ impl Frames {
 }
 
 // How many activations there are from a base on.
-#[tactic(auto, using(crate::proofs::Counting::number_on, crate::proofs::Counting::number_ends))]
+#[tactic(auto, using(crate::proofs::WalkLength::number_on, crate::proofs::WalkLength::number_ends))]
 fn count_from(words: &Region, base: u64) -> u32
     requires base { base < length words.now.words }
     requires limit { length words.now.words < 2 ^ 24 }
@@ -73,7 +73,7 @@ fn count_from(words: &Region, base: u64) -> u32
 }
 
 // The activation so many before the one at a base.
-#[tactic(auto, using(crate::proofs::Counting::find_on, crate::proofs::Counting::find_ends))]
+#[tactic(auto, using(crate::proofs::WalkLength::find_on, crate::proofs::WalkLength::find_ends))]
 fn find(words: &Region, marks: &Region, top: u64, base: u64, at: u32) -> Option<Activation>
     requires base { base < length words.now.words }
     requires marks { length marks.now.words ≡ length words.now.words }

@@ -1,6 +1,6 @@
 // Reads and writes of many words of a region, which know nothing of activations.
 ghost use Rattle.std.specs.Prelude.{◌≡◌, ◌+◌, ◌*◌, ◌<◌, ◌≤◌, ◌^◌, ℕ, List, length, replicate, slice_index, vec_capacity};
-ghost use Rattle.gier_frames.specs.Writes.{zeroed, words_from, poured, with_two, with_header};
+ghost use Rattle.gier_frames.specs.Writes.{with_zeros, words_from, with_values, with_two, with_header};
 
 use gier_region::Region;
 
@@ -8,7 +8,7 @@ use gier_region::Region;
 pub(crate) fn zero(words: &mut Region, at: u64, count: u64)
     requires within { at + count ≤ length words.old.words }
     requires limit { length words.old.words < 2 ^ 24 }
-    ensures words { words.new.words ≡ zeroed words.old.words at count }
+    ensures words { words.new.words ≡ with_zeros words.old.words at count }
     ensures size { length words.new.words ≡ length words.old.words }
 {
     for k in 0..count {
@@ -62,7 +62,7 @@ pub(crate) fn make_activation(words: &mut Region, at: u64, room: u64, old: u64, 
     requires limit { length words.old.words < 2 ^ 24 }
     requires old { old < 2 ^ 40 }
     requires head { head < 2 ^ 40 }
-    ensures words { words.new.words ≡ with_header (zeroed words.old.words at room) at old head (at + room) }
+    ensures words { words.new.words ≡ with_header (with_zeros words.old.words at room) at old head (at + room) }
     ensures size { length words.new.words ≡ length words.old.words }
 {
     zero(words, at, room);
@@ -90,7 +90,7 @@ pub(crate) fn pour(words: &mut Region, at: u64, values: &Vec<u64>)
     requires within { at + length values.now.items ≤ length words.old.words }
     requires limit { length words.old.words < 2 ^ 24 }
     requires small { (k : ℕ) → slice_index values.now.items k < 2 ^ 40 }
-    ensures words { words.new.words ≡ poured words.old.words at values.now.items (length values.now.items) }
+    ensures words { words.new.words ≡ with_values words.old.words at values.now.items (length values.now.items) }
     ensures size { length words.new.words ≡ length words.old.words }
 {
     for (k, value) in values.iter().enumerate() {

@@ -6,19 +6,19 @@ use Rattle.std.proofs.lemmas.Bool.Decides.{nat_tests}
 use Rattle.std.proofs.lemmas.List.{length-map}
 use Rattle.gier_drum.specs.declared.drum.Entry.{Entry}
 use Rattle.gier_symbol.specs.declared.symbol.Symbol.{Symbol}
-use Rattle.gier_symbol.specs.Assembled.{assembled}
+use Rattle.gier_symbol.specs.Assembly.{assembly}
 use Rattle.gier_symbol.specs.Listing.{FaultAt, SymbolFault, OpenString, Listing}
 use Rattle.gier_symbol.specs.Reading.{symbols_of}
 use Rattle.gier_symbol.specs.Tape.{before_parting, program_of}
 use Rattle.gier_text.specs.declared.fault.Fault.{Fault}
 use Rattle.gier_text.specs.declared.fault.FaultKind.{FaultKind}
 use Rattle.gier_text.specs.declared.fault.FaultKind.TheVariants.{TooLong}
-use Rattle.gier_text.specs.Faults.{named, without_position}
-use Rattle.gier_text.specs.Kept.{Kept}
+use Rattle.gier_text.specs.Faults.{as_fault, without_position}
+use Rattle.gier_text.specs.TablesModel.{TablesModel}
 use Rattle.gier_text.specs.View.{View, Appends}
 use Rattle.gier_tree.specs.Structure.{structure_fault}
 use Rattle.gier_pass1.specs.Program.{program_of as text_of, IsTooLong}
-use Rattle.gier_pass1.specs.Told.{TellsTape}
+use Rattle.gier_pass1.specs.TapeListing.{TellsTape}
 use Rattle.gier_pass2.specs.declared.pass.Pass2.{Pass2}
 use Rattle.gier_pass2.specs.Exact.{IsExact}
 use Rattle.gier_pass3.specs.Found.{IsBare, AreFound, faults_of}
@@ -51,14 +51,14 @@ some_mapped found early is some = omega (arith, some, ap length is, length-map f
 
 -- assembling
 
-pub one_goes_on : (t : Kept) (list written : List Symbol) → IsExact t list written → t.faults ≡ [] → faults_of_one list ≡ faults_of_two written
+pub one_goes_on : (t : TablesModel) (list written : List Symbol) → IsExact t list written → t.faults ≡ [] → faults_of_one list ≡ faults_of_two written
 one_goes_on t list written exact none =
-    let nothing : map named (assembled list).faults ≡ [] = sym exact.faults ∙ ap (λ (f : List Fault). map without_position f) none in
-    or_else_none (map named (assembled list).faults) (faults_of_two (assembled list).symbols) nothing ∙ ap faults_of_two (sym exact.symbols)
+    let nothing : map as_fault (assembly list).faults ≡ [] = sym exact.faults ∙ ap (λ (f : List Fault). map without_position f) none in
+    or_else_none (map as_fault (assembly list).faults) (faults_of_two (assembly list).symbols) nothing ∙ ap faults_of_two (sym exact.symbols)
 
-pub one_finds : (t : Kept) (list written : List Symbol) → IsExact t list written → 0 < length t.faults → AreEarly (faults_of_one list) t.faults
+pub one_finds : (t : TablesModel) (list written : List Symbol) → IsExact t list written → 0 < length t.faults → AreEarly (faults_of_one list) t.faults
 one_finds t list written exact some =
-    let all : faults_of_one list ≡ map named (assembled list).faults = or_else_some (map named (assembled list).faults) (faults_of_two (assembled list).symbols) (some_mapped t.faults (map named (assembled list).faults) exact.faults some) in
+    let all : faults_of_one list ≡ map as_fault (assembly list).faults = or_else_some (map as_fault (assembly list).faults) (faults_of_two (assembly list).symbols) (some_mapped t.faults (map as_fault (assembly list).faults) exact.faults some) in
     are_early (faults_of_one list) t.faults (exact.faults ∙ sym all)
 
 -- structure
@@ -71,10 +71,10 @@ two_finds_by : (fault : Option ℕ) (read : List Symbol) (faults : List Fault) �
 two_finds_by None read faults found some = absurd (omega (arith, some, ap length found))
 two_finds_by (Some line) read faults found some = ap (λ (f : List Fault). map without_position f) found.told
 
-pub two_goes_on : (t : Kept) (read : List Symbol) → AreFound (structure_fault read) read t.faults → t.faults ≡ [] → faults_of_two read ≡ []
+pub two_goes_on : (t : TablesModel) (read : List Symbol) → AreFound (structure_fault read) read t.faults → t.faults ≡ [] → faults_of_two read ≡ []
 two_goes_on t read found none = two_goes_on_by (structure_fault read) read t.faults found none
 
-pub two_finds : (t : Kept) (read : List Symbol) → AreFound (structure_fault read) read t.faults → 0 < length t.faults → AreEarly (faults_of_two read) t.faults
+pub two_finds : (t : TablesModel) (read : List Symbol) → AreFound (structure_fault read) read t.faults → 0 < length t.faults → AreEarly (faults_of_two read) t.faults
 two_finds t read found some = are_early (faults_of_two read) t.faults (two_finds_by (structure_fault read) read t.faults found some)
 
 -- a stop that finds no early fault
@@ -111,7 +111,7 @@ text_same (byte ∷ tape) = same_by (byte == 35) byte (text_of tape) (program_of
 
 -- the first stage
 
-early_short : (program : List ℕ) → length program ≤ longest → early_faults program ≡ or_else (map named (symbols_of program).faults) (faults_of_one (symbols_of program).symbols)
+early_short : (program : List ℕ) → length program ≤ longest → early_faults program ≡ or_else (map as_fault (symbols_of program).faults) (faults_of_one (symbols_of program).symbols)
 early_short program short = let no : nat_lt longest (length program) ≡ false = grind (arith, nat_tests, short) in rw no refl
 
 no_open : (faults : List (FaultAt SymbolFault)) → faults ≡ [] → All (λ fault. fault.kind ≢ OpenString) faults
@@ -132,9 +132,9 @@ first_ok left tape added old new before after bytes is tells short none blank =
     let told = subst (λ (l : Option (List ℕ)). TellsTape l added old new before after bytes) is tells in
     let program = program_of tape in
     let few : length program ≤ longest = omega (arith, told.0, short) in
-    let nothing : map named (symbols_of program).faults ≡ [] = sym told.1.faults ∙ ap (λ (f : List Fault). map without_position f) none in (
-      early_short program few ∙ or_else_none (map named (symbols_of program).faults) (faults_of_one (symbols_of program).symbols) nothing,
-      nothing_yet old.held new.held (symbols_of program).symbols blank (told.1.symbols (no_open (symbols_of program).faults (none_mapped named (symbols_of program).faults nothing))).written.held,
+    let nothing : map as_fault (symbols_of program).faults ≡ [] = sym told.1.faults ∙ ap (λ (f : List Fault). map without_position f) none in (
+      early_short program few ∙ or_else_none (map as_fault (symbols_of program).faults) (faults_of_one (symbols_of program).symbols) nothing,
+      nothing_yet old.held new.held (symbols_of program).symbols blank (told.1.symbols (no_open (symbols_of program).faults (none_mapped as_fault (symbols_of program).faults nothing))).written.held,
     )
 
 pub first_finds : (left : Option (List ℕ)) (tape : List ℕ) (added : List Fault) (old new : View) (before after : Option (List Entry)) (bytes : ℕ) → left ≡ Some tape → TellsTape left added old new before after bytes → bytes ≤ longest → 0 < length added → AreEarly (early_faults (program_of tape)) added
@@ -142,8 +142,8 @@ first_finds left tape added old new before after bytes is tells short some =
     let told = subst (λ (l : Option (List ℕ)). TellsTape l added old new before after bytes) is tells in
     let program = program_of tape in
     let few : length program ≤ longest = omega (arith, told.0, short) in
-    let early : early_faults program ≡ map named (symbols_of program).faults =
-    early_short program few ∙ or_else_some (map named (symbols_of program).faults) (faults_of_one (symbols_of program).symbols) (some_mapped added (map named (symbols_of program).faults) told.1.faults some) in
+    let early : early_faults program ≡ map as_fault (symbols_of program).faults =
+    early_short program few ∙ or_else_some (map as_fault (symbols_of program).faults) (faults_of_one (symbols_of program).symbols) (some_mapped added (map as_fault (symbols_of program).faults) told.1.faults some) in
     are_early (early_faults program) added (told.1.faults ∙ sym early)
 
 insert_first : {T : Type 0} (at : ℕ) (x : T) → insert [] at x ≡ x ∷ []

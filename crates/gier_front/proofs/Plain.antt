@@ -10,13 +10,13 @@ use Rattle.gier_symbol.specs.declared.tag.Tag.{Tag}
 use Rattle.gier_symbol.specs.declared.tag.Tag.TheVariants.{Letter, Digit, Identifier, Number, StringBegin, StringByte, StringEnd, TextEnd, End}
 use Rattle.gier_symbol.specs.declared.word.Spelling.{Spelling}
 use Rattle.gier_symbol.specs.declared.word.Spelling.TheVariants.{Plain, Quoted}
-use Rattle.gier_symbol.specs.Assembled.{is, is_letter_or_digit, Run, AName, ANumber, ASymbol, run_at, runs, Piece, pieces, known_by, place_of, comma_at, begins_group, with_commas, standard_names, assembled}
+use Rattle.gier_symbol.specs.Assembly.{is, is_letter_or_digit, Run, AName, ANumber, ASymbol, run_at, runs, Piece, pieces, known_by, place_of, comma_at, begins_group, with_commas, standard_names, assembly}
 use Rattle.gier_pass2.specs.Spelled.{IsSpelled}
 use Rattle.gier_pass3.specs.Found.{IsBare}
 use Rattle.gier_front.specs.Early.{IsPlain, ArePlain}
 use Rattle.gier_symbol.specs.Bytes.{is_layout, is_letter, is_digit, Front, ALayout, ALetter, ADigit, AWord, AString, ASign, Other, front_by, front_of, sign_front, sign_before, sign_symbols, begins_with, opening_brace}
 use Rattle.gier_symbol.specs.ByTag.{sym as symbol, word}
-use Rattle.gier_symbol.specs.Listing.{Listing, joined}
+use Rattle.gier_symbol.specs.Listing.{Listing, listings_joined}
 use Rattle.gier_symbol.specs.Reading.{Taken, string_symbols, takes_string, takes_comment, takes_known, takes_word, taken_by, read, read_by, symbols_of, line_behind, quoting_byte, zero_byte}
 use Rattle.gier_symbol.specs.Spans.{string_bytes}
 use Rattle.gier_symbol.specs.Tags.{number_of, name_of}
@@ -206,7 +206,7 @@ commas_bare [] taken bare = tt
 commas_bare (p ∷ rest) (suc taken) bare = commas_bare rest taken bare.1
 commas_bare (p ∷ rest) zero bare = comma_bare (begins_group p rest) p.symbol (with_commas rest) bare.0 (λ taken. commas_bare rest taken bare.1)
 
-pub assembled_bare : (symbols : List Symbol) → ArePlain symbols → AreBare (assembled symbols).symbols
+pub assembled_bare : (symbols : List Symbol) → ArePlain symbols → AreBare (assembly symbols).symbols
 assembled_bare symbols plain = commas_bare (pieces (runs symbols 0) standard_names) 0 (pieces_bare (runs symbols 0) standard_names (runs_bare symbols 0 plain))
 
 -- at each place

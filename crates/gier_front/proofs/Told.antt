@@ -3,7 +3,7 @@ use Rattle.std.proofs.Common.{◌≡◌, ◌++◌, ◌∙◌, ℕ, List, [], Opt
 use Rattle.std.specs.Prelude.{Result, Ok, Err, OnOk}
 use Rattle.gier_symbol.specs.declared.symbol.Symbol.{Symbol}
 use Rattle.gier_text.specs.declared.text.Way.{Way}
-use Rattle.gier_text.specs.View.{View, Appends, OrdersLeft, IsLeftIn, ordered}
+use Rattle.gier_text.specs.View.{View, Appends, OrdersLeft, IsLeftIn, in_way}
 use Rattle.gier_front.specs.declared.stop.FrontStop.{FrontStop}
 use Rattle.gier_front.specs.declared.stop.FrontStop.TheVariants.{Errors, Read, Drum, Spoilt}
 use Rattle.gier_front.specs.Stages.{IsToldAs, IsNothing, IfDriven}
@@ -12,7 +12,7 @@ some_same : {A : Type 0} (x y : A) → Some x ≡ Some y → x ≡ y
 some_same x y h = cc
 
 -- the list that is handed over is the one that was read
-pub handed : (P : List Symbol → Type 0) (held : Option (List Symbol)) (way : Way) (left : Option (List Symbol)) (read : List Symbol) → IsToldAs P held → OrdersLeft held way left → IsLeftIn left read → (list : List Symbol) × P list × (read ≡ ordered way list)
+pub handed : (P : List Symbol → Type 0) (held : Option (List Symbol)) (way : Way) (left : Option (List Symbol)) (read : List Symbol) → IsToldAs P held → OrdersLeft held way left → IsLeftIn left read → (list : List Symbol) × P list × (read ≡ in_way way list)
 handed P None way left read told orders is = absurd told
 handed P (Some list) way left read told orders is = (list, told, sym (subst (λ l. IsLeftIn l read) orders is))
 

@@ -2,14 +2,14 @@
 use Rattle.std.specs.Prelude.{◌≡◌, ◌<◌, ◌==◌, ◌||◌, ℕ, Bool, true, false, nat_lt, List, [], ◌∷◌, length, map, Option, None, Some, Result, Ok, Err, IsTrue}
 use Rattle.gier_symbol.specs.declared.symbol.Symbol.{Symbol}
 use Rattle.gier_symbol.specs.declared.tag.Tag.TheVariants.{Letter, Digit, StringByte}
-use Rattle.gier_symbol.specs.Assembled.{is, is_letter_or_digit, assembled}
+use Rattle.gier_symbol.specs.Assembly.{is, is_letter_or_digit, assembly}
 use Rattle.gier_symbol.specs.Bytes.{is_letter}
 use Rattle.gier_symbol.specs.Listing.{FaultAt, Listing}
 use Rattle.gier_symbol.specs.Reading.{symbols_of}
 use Rattle.gier_text.specs.declared.fault.Fault.{Fault}
 use Rattle.gier_text.specs.declared.fault.FaultKind.{FaultKind}
 use Rattle.gier_text.specs.declared.fault.FaultKind.TheVariants.{TooLong, Structure}
-use Rattle.gier_text.specs.Faults.{named, without_position}
+use Rattle.gier_text.specs.Faults.{as_fault, without_position}
 use Rattle.gier_tree.specs.Structure.{structure_fault}
 use Rattle.gier_areas.specs.Areas.{longest}
 use Rattle.gier_front.specs.declared.stop.FrontStop.{FrontStop}
@@ -34,11 +34,11 @@ faults_of_two symbols = structure_faults (structure_fault symbols)
 
 -- from text 1 on
 abbrev pub faults_of_one : List Symbol → List (FaultAt FaultKind)
-faults_of_one symbols = or_else (map named (assembled symbols).faults) (faults_of_two (assembled symbols).symbols)
+faults_of_one symbols = or_else (map as_fault (assembly symbols).faults) (faults_of_two (assembly symbols).symbols)
 
 abbrev pub early_by : (long : Bool) → Listing → List (FaultAt FaultKind)
 early_by true listing = too_long
-early_by false listing = or_else (map named listing.faults) (faults_of_one listing.symbols)
+early_by false listing = or_else (map as_fault listing.faults) (faults_of_one listing.symbols)
 
 -- the early faults of a program text
 abbrev pub early_faults : (program : List ℕ) → List (FaultAt FaultKind)

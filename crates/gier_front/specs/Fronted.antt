@@ -5,8 +5,8 @@ use Rattle.gier_pass1.specs.Program.{TakesAll, TakesPart}
 use Rattle.gier_front.specs.declared.stop.FrontStop.{FrontStop}
 use Rattle.gier_front.specs.declared.stop.FrontStop.TheVariants.{Errors, Read, Drum, Spoilt}
 use Rattle.gier_areas.specs.Areas.{longest, first_of}
-use Rattle.gier_text.specs.Coded.{text_on}
-use Rattle.gier_text.specs.Growth.{IsLight}
+use Rattle.gier_text.specs.SymbolsOnTracks.{text_on}
+use Rattle.gier_text.specs.Potential.{IsWithinPotential}
 use Rattle.gier_front.specs.Stages.{IsToldAs}
 
 -- text 6 lies in the first area, and is no longer than a text of a program of so many bytes may be
@@ -17,7 +17,7 @@ pub record IsFronted (fronted : Fronted) : Type 0 where
 
 -- text 6 is told where the drum is, and isn't too heavy
 abbrev pub HasTextSix : Option (List (List ℕ)) → Fronted → Type 0
-HasTextSix tracks fronted = IsToldAs (IsLight 6 fronted.bytes) (text_on tracks (first_of 6) fronted.symbols)
+HasTextSix tracks fronted = IsToldAs (IsWithinPotential 6 fronted.bytes) (text_on tracks (first_of 6) fronted.symbols)
 
 -- the program text was taken from the tape, or a part of it where something failed
 abbrev pub FrontTakes : {T : Type 0} → Result T FrontStop → Option (List ℕ) → Option (List ℕ) → Type 0

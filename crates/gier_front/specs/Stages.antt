@@ -4,8 +4,8 @@ use Rattle.gier_front.specs.declared.stop.FrontStop.{FrontStop}
 use Rattle.gier_front.specs.declared.stop.FrontStop.TheVariants.{Errors, Read, Drum, Spoilt}
 use Rattle.gier_symbol.specs.declared.symbol.Symbol.{Symbol}
 use Rattle.gier_symbol.specs.Texts.{stands_in}
-use Rattle.gier_text.specs.Growth.{is_numbered}
-use Rattle.gier_text.specs.Kept.{Kept}
+use Rattle.gier_text.specs.Potential.{is_numbered}
+use Rattle.gier_text.specs.TablesModel.{TablesModel}
 use Rattle.gier_text.specs.View.{View}
 
 -- the list is told, and is of this kind
@@ -17,7 +17,7 @@ abbrev pub IsNothing : List Symbol → Type 0
 IsNothing list = list ≡ []
 
 -- the tables hold no fault, and are for programs of at least so many bytes
-pub record AreClean (bytes : ℕ) (t : Kept) : Type 0 where
+pub record AreClean (bytes : ℕ) (t : TablesModel) : Type 0 where
   pub faults : t.faults ≡ []
   pub limit : bytes ≤ t.limit
 

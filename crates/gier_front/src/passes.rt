@@ -1,11 +1,11 @@
 // The way from the tape to text 6: six passes, one after the other, in which the order of the passes can be read.
 ghost use Rattle.std.specs.Prelude.{◌≡◌, ◌≤◌, ◌<◌, ◌+◌, ◌*◌, ℕ, List, length, OnOk, IfOk, IsErrOf, IsTrue, true, false, Some, is_some, []};
 ghost use Rattle.gier_word.specs.Cause.{HasRisen};
-ghost use Rattle.gier_text.specs.Coded.{tracks_for as tracks_of};
-ghost use Rattle.gier_text.specs.Kept.{kept};
+ghost use Rattle.gier_text.specs.SymbolsOnTracks.{tracks_for as tracks_of};
+ghost use Rattle.gier_text.specs.TablesModel.{tables_model};
 ghost use Rattle.gier_text.specs.View.{IsEmpty, IsPlacedAs, Rewinds};
 ghost use Rattle.gier_text.specs.declared.text.Way.TheVariants.{Forward};
-ghost use Rattle.gier_pass2.specs.Standing.{IsTextOne};
+ghost use Rattle.gier_pass2.specs.Invariant.{IsTextOne};
 ghost use Rattle.gier_front.specs.declared.stop.FrontStop.TheVariants.{Errors, Read, Drum as DrumStop};
 ghost use Rattle.gier_areas.specs.Areas.{longest, first_of, capacity_of, all_tracks};
 ghost use Rattle.gier_symbol.specs.declared.symbol.Symbol.{Symbol};
@@ -37,18 +37,18 @@ pub fn front<S: Source, D: Drum>(
     drum: &mut D,
     tables: &mut Tables,
 ) -> Result<Fronted, FrontStop>
-    requires limit { (kept tables.old).limit ≡ longest }
-    requires no_faults { (kept tables.old).faults ≡ [] }
+    requires limit { (tables_model tables.old).limit ≡ longest }
+    requires no_faults { (tables_model tables.old).faults ≡ [] }
     requires room { all_tracks longest ≤ D.room drum.old }
     ensures fronted { IfOk result IsFronted }
-    ensures no_faults { OnOk result ((kept tables.new).faults ≡ []) }
-    ensures limit { (kept tables.new).limit ≡ longest }
+    ensures no_faults { OnOk result ((tables_model tables.new).faults ≡ []) }
+    ensures limit { (tables_model tables.new).limit ≡ longest }
     ensures room { D.room drum.new ≡ D.room drum.old }
     ensures told { is_some (D.tracks drum.new) ≡ is_some (D.tracks drum.old) }
     ensures taken { FrontTakes result (S.left tape.old) (S.left tape.new) }
     ensures tape_later { S.faults tape.old ≤ S.faults tape.new }
     ensures drum_later { D.faults drum.old ≤ D.faults drum.new }
-    ensures errors { IsErrOf result Errors → 0 < length (kept tables.new).faults }
+    ensures errors { IsErrOf result Errors → 0 < length (tables_model tables.new).faults }
     ensures read { IsErrOf result Read → HasRisen (S.faults tape.old) (S.faults tape.new) }
     ensures drum { IsErrOf result DrumStop → HasRisen (D.faults drum.old) (D.faults drum.new) }
     ensures sound { is_some (D.tracks drum.old) ≡ true → NotSpoilt result }
@@ -56,7 +56,7 @@ pub fn front<S: Source, D: Drum>(
     ensures counted { (bytes : List ℕ) → S.left tape.old ≡ Some bytes
         → IfOk result (λ fronted. fronted.bytes ≡ length (program_of bytes)) }
     ensures early { (bytes : List ℕ) → S.left tape.old ≡ Some bytes → is_some (D.tracks drum.old) ≡ true
-        → FindsEarly result (early_faults (program_of bytes)) (kept tables.new).faults }
+        → FindsEarly result (early_faults (program_of bytes)) (tables_model tables.new).faults }
 {
     let mut text1 = blank_text(1, LIMIT);
     match read_tape(tape, drum, &mut text1, tables) {
@@ -72,7 +72,7 @@ fn compile<D: Drum>(
     text1: &mut DrumText<D>,
     tables: &mut Tables,
 ) -> Result<Fronted, FrontStop>
-    requires clean { AreClean bytes (kept tables.old) }
+    requires clean { AreClean bytes (tables_model tables.old) }
     requires few { bytes ≤ longest }
     requires room { all_tracks longest ≤ D.room drum.old }
     requires writing { text1.old.rewound ≡ false }
@@ -80,12 +80,12 @@ fn compile<D: Drum>(
     requires placed { text1.old.first + tracks_of text1.old.capacity ≤ D.room drum.old }
     ensures fronted { IfOk result IsFronted }
     ensures bytes { IfOk result (λ fronted. fronted.bytes ≡ bytes) }
-    ensures clean { OnOk result (AreClean bytes (kept tables.new)) }
-    ensures limit { (kept tables.new).limit ≡ (kept tables.old).limit }
+    ensures clean { OnOk result (AreClean bytes (tables_model tables.new)) }
+    ensures limit { (tables_model tables.new).limit ≡ (tables_model tables.old).limit }
     ensures room { D.room drum.new ≡ D.room drum.old }
     ensures told { is_some (D.tracks drum.new) ≡ is_some (D.tracks drum.old) }
     ensures later { D.faults drum.old ≤ D.faults drum.new }
-    ensures errors { IsErrOf result Errors → 0 < length (kept tables.new).faults }
+    ensures errors { IsErrOf result Errors → 0 < length (tables_model tables.new).faults }
     ensures read { IsErrOf result Read → ⊥ }
     ensures drum { IsErrOf result DrumStop → HasRisen (D.faults drum.old) (D.faults drum.new) }
     ensures sound { is_some (D.tracks drum.old) ≡ true
@@ -94,7 +94,7 @@ fn compile<D: Drum>(
         → IsToldAs (IsTextOne bytes) (⟦<DrumText<D> as Text>⟧.view text1.old drum.old).held
         → IfOk result (HasTextSix (D.tracks drum.new)) }
     ensures early { (list : List Symbol) → (⟦<DrumText<D> as Text>⟧.view text1.old drum.old).held ≡ Some list → ArePlain list
-        → is_some (D.tracks drum.old) ≡ true → FindsEarly result (faults_of_one list) (kept tables.new).faults }
+        → is_some (D.tracks drum.old) ≡ true → FindsEarly result (faults_of_one list) (tables_model tables.new).faults }
 {
     let mut text2 = blank_text(2, bytes);
     run_stage::<Pass2, DrumText<D>>(bytes, drum, text1, &mut text2, tables)?;
@@ -128,14 +128,14 @@ fn read_tape<S: Source, T: Text>(
     text: &mut T,
     tables: &mut Tables,
 ) -> Result<u32, FrontStop>
-    requires limit { (kept tables.old).limit ≡ longest }
-    requires no_faults { (kept tables.old).faults ≡ [] }
+    requires limit { (tables_model tables.old).limit ≡ longest }
+    requires no_faults { (tables_model tables.old).faults ≡ [] }
     requires blank { IsEmpty (T.view text.old store.old) }
     requires placed { T.end_track text.old ≤ T.room store.old }
     ensures few { IfOk result (λ bytes. bytes ≤ longest) }
     ensures counted { (bytes : List ℕ) → S.left tape.old ≡ Some bytes → IfOk result (λ count. count ≡ length (program_of bytes)) }
-    ensures no_faults { OnOk result ((kept tables.new).faults ≡ []) }
-    ensures limit { (kept tables.new).limit ≡ longest }
+    ensures no_faults { OnOk result ((tables_model tables.new).faults ≡ []) }
+    ensures limit { (tables_model tables.new).limit ≡ longest }
     ensures goes_on { OnOk result (GoesOn (T.view text.old store.old) (T.view text.new store.new)) }
     ensures gives { IsToldAs IsNothing (T.view text.old store.old).held
         → IfOk result (λ bytes. IsToldAs (IsTextOne bytes) (T.view text.new store.new).held) }
@@ -145,12 +145,12 @@ fn read_tape<S: Source, T: Text>(
     ensures taken { FrontTakes result (S.left tape.old) (S.left tape.new) }
     ensures tape_later { S.faults tape.old ≤ S.faults tape.new }
     ensures later { T.faults store.old ≤ T.faults store.new }
-    ensures errors { IsErrOf result Errors → 0 < length (kept tables.new).faults }
+    ensures errors { IsErrOf result Errors → 0 < length (tables_model tables.new).faults }
     ensures read { IsErrOf result Read → HasRisen (S.faults tape.old) (S.faults tape.new) }
     ensures drum { IsErrOf result DrumStop → HasRisen (T.faults store.old) (T.faults store.new) }
     ensures sound { T.grows ≡ false → (T.view text.old store.old).capacity ≡ Some (capacity_of longest) → NotSpoilt result }
     ensures early { (bytes : List ℕ) → S.left tape.old ≡ Some bytes → IsToldAs IsNothing (T.view text.old store.old).held
-        → FindsFirst result (program_of bytes) (kept tables.new).faults (T.view text.new store.new).held }
+        → FindsFirst result (program_of bytes) (tables_model tables.new).faults (T.view text.new store.new).held }
 {
     match Pass1::read(tape, store, text, tables) {
         Ok(bytes) => match no_faults(tables) {
@@ -175,7 +175,7 @@ fn read_tape<S: Source, T: Text>(
 fn close<T: Text>(store: &mut T::Store, text: &mut T, tables: &mut Tables) -> Result<(), FrontStop>
     requires writing { (T.view text.old store.old).rewound ≡ false }
     requires placed { T.end_track text.old ≤ T.room store.old }
-    ensures cleared { kept tables.new ≡ record (kept tables.old) { used = 0; lists = [] } }
+    ensures cleared { tables_model tables.new ≡ record (tables_model tables.old) { used = 0; lists = [] } }
     ensures count { OnOk result ((T.view text.new store.new).count ≡ (T.view text.old store.old).count) }
     ensures capacity { OnOk result ((T.view text.new store.new).capacity ≡ (T.view text.old store.old).capacity) }
     ensures rewinds { OnOk result (Rewinds (T.view text.old store.old) Forward (T.view text.new store.new)) }

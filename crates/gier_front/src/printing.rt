@@ -2,7 +2,7 @@
 ghost use Rattle.std.specs.Prelude.{◌++◌, OnOk, OnErr};
 ghost use Rattle.gier_word.specs.Cause.{HasCause};
 ghost use Rattle.gier_io.specs.Device.{Puts, PutsPart};
-ghost use Rattle.gier_text.specs.Kept.{kept};
+ghost use Rattle.gier_text.specs.TablesModel.{tables_model};
 ghost use Rattle.gier_front.specs.Printed.{errors_text, fault_line, located_line};
 
 use crate::pieces::put_both;
@@ -15,8 +15,8 @@ use itoa::Buffer;
 ///
 /// After `Failed`, which comes only where the sink's count of faults rose, a prefix was printed.
 pub fn print_errors<K: Sink>(tables: &Tables, out: &mut K) -> Result<(), Failed>
-    ensures put { OnOk result (Puts (K.holds out.old) (errors_text (kept tables.now).faults) (K.holds out.new)) }
-    ensures part { OnErr result (PutsPart (K.holds out.old) (errors_text (kept tables.now).faults) (K.holds out.new)) }
+    ensures put { OnOk result (Puts (K.holds out.old) (errors_text (tables_model tables.now).faults) (K.holds out.new)) }
+    ensures part { OnErr result (PutsPart (K.holds out.old) (errors_text (tables_model tables.now).faults) (K.holds out.new)) }
     ensures cause { HasCause (K.faults out.old) (K.faults out.new) result }
 {
     for at in 0..tables.faults() {

@@ -4,8 +4,8 @@ ghost use Rattle.gier_word.specs.Cause.{HasRisen};
 ghost use Rattle.gier_symbol.specs.declared.symbol.Symbol.{Symbol};
 ghost use Rattle.gier_text.specs.declared.tables.Tables.{Tables};
 ghost use Rattle.gier_text.specs.declared.text.Way.{Way};
-ghost use Rattle.gier_text.specs.Kept.{kept, fresh};
-ghost use Rattle.gier_text.specs.View.{IsEmpty, IsPlacedAs, Apart, ordered};
+ghost use Rattle.gier_text.specs.TablesModel.{tables_model, fresh};
+ghost use Rattle.gier_text.specs.View.{IsEmpty, IsPlacedAs, Apart, in_way};
 ghost use Rattle.gier_front.specs.declared.stop.FrontStop.TheVariants.{Errors, Read, Drum as DrumStop};
 ghost use Rattle.gier_front.specs.Stages.{IsToldAs, IsNothing, AreClean, GoesOn, Drives, IfDriven};
 ghost use Rattle.gier_front.specs.Stops.{NotSpoilt};
@@ -28,21 +28,21 @@ pub(crate) trait Stage: Pass {
 
     /// The pass over a text of a program of so many bytes, with cleared tables.
     fn start(tables: &mut Tables, bytes: u32) -> Self
-        requires cleared { kept tables.old ≡ fresh (kept tables.old).limit }
-        requires bytes { bytes ≤ (kept tables.old).limit }
+        requires cleared { tables_model tables.old ≡ fresh (tables_model tables.old).limit }
+        requires bytes { bytes ≤ (tables_model tables.old).limit }
         ensures stands { Self.stands result tables.new [] [] }
         ensures bytes { bytes_of result ≡ bytes }
-        ensures limit { (kept tables.new).limit ≡ (kept tables.old).limit };
+        ensures limit { (tables_model tables.new).limit ≡ (tables_model tables.old).limit };
 
     /// The way in which it reads.
     fn way() -> Way
         ensures { result ≡ reads };
 
     /// It is meant for what it is handed.
-    ghost expected: { (pass : Self) (list : List Symbol) → wants (bytes_of pass) list → Self.expects pass (ordered reads list) };
+    ghost expected: { (pass : Self) (list : List Symbol) → wants (bytes_of pass) list → Self.expects pass (in_way reads list) };
 
     /// What it writes over such a list.
-    ghost given: { (pass : Self) (tables : Tables) (list written : List Symbol) → wants (bytes_of pass) list → Self.relates pass tables (ordered reads list) written → gives (bytes_of pass) written };
+    ghost given: { (pass : Self) (tables : Tables) (list written : List Symbol) → wants (bytes_of pass) list → Self.relates pass tables (in_way reads list) written → gives (bytes_of pass) written };
 
     /// A text has room for what it writes.
     ghost roomy: { (pass : Self) → Self.most pass ≤ 24 * bytes_of pass + 64 };
@@ -59,7 +59,7 @@ pub(crate) fn run_stage<P: Stage + Drop, T: Text>(
     output: &mut T,
     tables: &mut Tables,
 ) -> Result<(), FrontStop>
-    requires clean { AreClean bytes (kept tables.old) }
+    requires clean { AreClean bytes (tables_model tables.old) }
     requires writing { (T.view input.old store.old).rewound ≡ false }
     requires blank { IsEmpty (T.view output.old store.old) }
     requires input_placed { T.end_track input.old ≤ T.room store.old }
@@ -71,15 +71,15 @@ pub(crate) fn run_stage<P: Stage + Drop, T: Text>(
         → OnOk result (IsToldAs (P.gives bytes) (T.view output.new store.new).held) }
     ensures driven { (list : List Symbol) → (T.view input.old store.old).held ≡ Some list
         → IsToldAs IsNothing (T.view output.old store.old).held
-        → IfDriven result (Drives P.bytes_of P.relates bytes (ordered P.reads list) tables.new (T.view output.new store.new).held) }
-    ensures clean { OnOk result (AreClean bytes (kept tables.new)) }
-    ensures limit { (kept tables.new).limit ≡ (kept tables.old).limit }
+        → IfDriven result (Drives P.bytes_of P.relates bytes (in_way P.reads list) tables.new (T.view output.new store.new).held) }
+    ensures clean { OnOk result (AreClean bytes (tables_model tables.new)) }
+    ensures limit { (tables_model tables.new).limit ≡ (tables_model tables.old).limit }
     ensures input_place { IsPlacedAs T.first_track T.end_track input.old input.new }
     ensures output_place { IsPlacedAs T.first_track T.end_track output.old output.new }
     ensures room { T.room store.new ≡ T.room store.old }
     ensures told { is_some (T.tracks store.new) ≡ is_some (T.tracks store.old) }
     ensures later { T.faults store.old ≤ T.faults store.new }
-    ensures errors { IsErrOf result Errors → 0 < length (kept tables.new).faults }
+    ensures errors { IsErrOf result Errors → 0 < length (tables_model tables.new).faults }
     ensures read { IsErrOf result Read → ⊥ }
     ensures drum { IsErrOf result DrumStop → HasRisen (T.faults store.old) (T.faults store.new) }
     ensures sound { T.grows ≡ false → IsToldAs (P.wants bytes) (T.view input.old store.old).held
@@ -99,8 +99,8 @@ pub(crate) fn run_stage<P: Stage + Drop, T: Text>(
 
 /// Errors exactly where the tables hold a fault.
 pub(crate) fn no_faults(tables: &Tables) -> Result<(), FrontStop>
-    ensures none { OnOk result ((kept tables.now).faults ≡ []) }
-    ensures errors { IsErrOf result Errors → 0 < length (kept tables.now).faults }
+    ensures none { OnOk result ((tables_model tables.now).faults ≡ []) }
+    ensures errors { IsErrOf result Errors → 0 < length (tables_model tables.now).faults }
     ensures read { IsErrOf result Read → ⊥ }
     ensures drum { IsErrOf result DrumStop → ⊥ }
     ensures sound { NotSpoilt result }

@@ -1,9 +1,9 @@
 // The five passes behind the first as stages of the front.
 ghost use Rattle.std.proofs.Common.{arith};
 ghost use Rattle.gier_text.specs.declared.text.Way.TheVariants.{Forward, Backward};
-ghost use Rattle.gier_text.specs.Growth.{IsLight};
-ghost use Rattle.gier_text.specs.Kept.{kept};
-ghost use Rattle.gier_pass2.specs.Standing.{IsTextOne};
+ghost use Rattle.gier_text.specs.Potential.{IsWithinPotential};
+ghost use Rattle.gier_text.specs.TablesModel.{tables_model};
+ghost use Rattle.gier_pass2.specs.Invariant.{IsTextOne};
 ghost use Rattle.gier_front.specs.Stages.{IsTextTwo};
 ghost use Rattle.gier_front.specs.Handed.{assembled, meant_for, light_back, scoped};
 
@@ -35,7 +35,7 @@ impl Stage for Pass2 {
 
     ghost expected = { λ pass list h. h };
 
-    ghost given = { λ pass tables list written h relates. assembled pass (kept tables) list written h relates };
+    ghost given = { λ pass tables list written h relates. assembled pass (tables_model tables) list written h relates };
 
     ghost roomy = { λ pass. Prim.omega arith };
 
@@ -48,7 +48,7 @@ impl Stage for Pass3 {
 
     ghost wants = { IsTextTwo };
 
-    ghost gives = { IsLight 3 };
+    ghost gives = { IsWithinPotential 3 };
 
     ghost reads = { Forward };
 
@@ -73,9 +73,9 @@ impl Stage for Pass3 {
 impl Stage for Pass4 {
     ghost bytes_of = { λ pass. pass.lists.bytes };
 
-    ghost wants = { IsLight 3 };
+    ghost wants = { IsWithinPotential 3 };
 
-    ghost gives = { IsLight 4 };
+    ghost gives = { IsWithinPotential 4 };
 
     ghost reads = { Backward };
 
@@ -100,9 +100,9 @@ impl Stage for Pass4 {
 impl Stage for Pass5 {
     ghost bytes_of = { λ pass. pass.bytes };
 
-    ghost wants = { IsLight 4 };
+    ghost wants = { IsWithinPotential 4 };
 
-    ghost gives = { IsLight 5 };
+    ghost gives = { IsWithinPotential 5 };
 
     ghost reads = { Backward };
 
@@ -127,9 +127,9 @@ impl Stage for Pass5 {
 impl Stage for Pass6 {
     ghost bytes_of = { λ pass. pass.work.bytes };
 
-    ghost wants = { IsLight 5 };
+    ghost wants = { IsWithinPotential 5 };
 
-    ghost gives = { IsLight 6 };
+    ghost gives = { IsWithinPotential 6 };
 
     ghost reads = { Forward };
 

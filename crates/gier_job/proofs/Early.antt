@@ -4,7 +4,7 @@ use Rattle.std.specs.Prelude.{Result, Ok, Err}
 use Rattle.std.proofs.lemmas.Bool.Decides.{nat_tests}
 use Rattle.std.proofs.lemmas.Fmt.{decimal_by_steps}
 use Rattle.gier_io.specs.Device.{Puts}
-use Rattle.gier_symbol.specs.Assembled.{assembled}
+use Rattle.gier_symbol.specs.Assembly.{assembly}
 use Rattle.gier_symbol.specs.Listing.{FaultAt, SymbolFault, WrongByte, WrongWord, OpenString, LargeNumber}
 use Rattle.gier_symbol.specs.Reading.{symbols_of}
 use Rattle.gier_symbol.specs.Tape.{before_parting, program_of, parting_byte}
@@ -13,14 +13,14 @@ use Rattle.gier_text.specs.declared.fault.Fault.{Fault}
 use Rattle.gier_text.specs.declared.fronted.Fronted.{Fronted}
 use Rattle.gier_text.specs.declared.fault.FaultKind.{FaultKind}
 use Rattle.gier_text.specs.declared.fault.FaultKind.TheVariants.{TooLong}
-use Rattle.gier_text.specs.Faults.{named, without_position}
+use Rattle.gier_text.specs.Faults.{as_fault, without_position}
 use Rattle.gier_tree.specs.Hoist.{hoist}
-use Rattle.gier_tree.specs.Structure.{structure_fault, written}
+use Rattle.gier_tree.specs.Structure.{structure_fault, program_spelled}
 use Rattle.gier_tree.specs.Trees.{Program}
 use Rattle.gier_scope.specs.Faults.{ScopeFault}
 use Rattle.gier_scope.specs.ScopeFaults.{scope_faults}
 use Rattle.gier_kinds.specs.Errors.{OfSymbols, OfScopes, OfTypes, Faults, Errors as AllErrors, Listed, faults_as, structure_list, scope_list, type_list, first_filled, errors_by, errors}
-use Rattle.gier_kinds.specs.ErrorTexts.{fault_line, fault_lines, printed}
+use Rattle.gier_kinds.specs.ErrorTexts.{fault_line, fault_lines, error_lines}
 use Rattle.gier_kinds.specs.Faults.{TypeFault}
 use Rattle.gier_kinds.specs.TypeFaults.{type_faults}
 use Rattle.gier_areas.specs.Areas.{longest}
@@ -58,23 +58,23 @@ line_with : (line : ℕ) (text : List ℕ)
 line_with line text = joined (codes "line ") (decimal line) (codes " ") text (codes "\n")
 
 symbol_line : (kind : SymbolFault) (line : ℕ)
-    → line_of (placed (named (record { kind = kind; line = line }))) ≡ fault_line (record { kind = OfSymbols kind; line = line })
+    → line_of (placed (as_fault (record { kind = kind; line = line }))) ≡ fault_line (record { kind = OfSymbols kind; line = line })
 symbol_line WrongByte line = line_with line (codes "character")
 symbol_line WrongWord line = line_with line (codes "word")
 symbol_line OpenString line = line_with line (codes "string")
 symbol_line LargeNumber line = line_with line (codes "number")
 
-symbol_lines : (found : List (FaultAt SymbolFault)) → errors_text (map placed (map named found)) ≡ fault_lines (faults_as OfSymbols found)
+symbol_lines : (found : List (FaultAt SymbolFault)) → errors_text (map placed (map as_fault found)) ≡ fault_lines (faults_as OfSymbols found)
 symbol_lines [] = refl
 symbol_lines (fault ∷ found) =
-    ap (λ (l : List ℕ). l ++ errors_text (map placed (map named found))) (symbol_line fault.kind fault.line)
+    ap (λ (l : List ℕ). l ++ errors_text (map placed (map as_fault found))) (symbol_line fault.kind fault.line)
     ∙ ap (λ (l : List ℕ). fault_line (record { kind = OfSymbols fault.kind; line = fault.line }) ++ l) (symbol_lines found)
 
 -- Early faults are the errors, or these are no early ones
 
 abbrev Agrees : List (FaultAt FaultKind) → AllErrors → Type 0
 Agrees [] all = are_early all ≡ false
-Agrees (fault ∷ faults) all = errors_text (map placed (fault ∷ faults)) ≡ printed all
+Agrees (fault ∷ faults) all = errors_text (map placed (fault ∷ faults)) ≡ error_lines all
 
 abbrev late_lists : Option Program → List Faults
 late_lists t = scope_list t ∷ type_list t ∷ []
@@ -95,13 +95,13 @@ with_structure None t = late t
 with_structure (Some line) t = ap (λ (l : List ℕ). l ++ []) (line_with line (codes "structure"))
 
 with_numbers : (numbers : List (FaultAt SymbolFault)) (fault : Option ℕ) (t : Option Program)
-    → Agrees (or_else (map named numbers) (structure_faults fault))
+    → Agrees (or_else (map as_fault numbers) (structure_faults fault))
     (Listed (first_filled (faults_as OfSymbols numbers ∷ structure_list fault ∷ late_lists t)))
 with_numbers [] fault t = with_structure fault t
 with_numbers (number ∷ numbers) fault t = symbol_lines (number ∷ numbers)
 
 with_bytes : (bytes numbers : List (FaultAt SymbolFault)) (fault : Option ℕ) (t : Option Program)
-    → Agrees (or_else (map named bytes) (or_else (map named numbers) (structure_faults fault)))
+    → Agrees (or_else (map as_fault bytes) (or_else (map as_fault numbers) (structure_faults fault)))
     (Listed (first_filled (faults_as OfSymbols bytes ∷ faults_as OfSymbols numbers ∷ structure_list fault ∷ late_lists t)))
 with_bytes [] numbers fault t = with_numbers numbers fault t
 with_bytes (byte ∷ bytes) numbers fault t = symbol_lines (byte ∷ bytes)
@@ -110,8 +110,8 @@ agree_by : (long : Bool) (text : List ℕ) → Agrees (early_by long (symbols_of
 agree_by true text = refl
 agree_by false text =
     let read = symbols_of text in
-    let two = assembled read.symbols in
-    with_bytes read.faults two.faults (structure_fault two.symbols) (written two.symbols)
+    let two = assembly read.symbols in
+    with_bytes read.faults two.faults (structure_fault two.symbols) (program_spelled two.symbols)
 
 agree : (text : List ℕ) → Agrees (early_faults text) (errors text)
 agree text = agree_by (nat_lt longest (length text)) text
@@ -122,13 +122,13 @@ pub none_early : (text : List ℕ) → early_faults text ≡ [] → are_early (e
 none_early text none = subst (λ (early : List (FaultAt FaultKind)). Agrees early (errors text)) none (agree text)
 
 printed_by : (early : List (FaultAt FaultKind)) (found : List Fault) (all : AllErrors) → Agrees early all → AreEarly early found
-    → are_early all ≡ true → errors_text found ≡ printed all
+    → are_early all ≡ true → errors_text found ≡ error_lines all
 printed_by [] found all agrees are early = absurd cc
 printed_by (fault ∷ faults) found all agrees are early =
     same_lines found ∙ ap (λ (l : List (FaultAt FaultKind)). errors_text (map placed l)) are ∙ agrees
 
 pub puts_early : (text : List ℕ) (found : List Fault) (old new : Option (List ℕ)) → AreEarly (early_faults text) found
-    → Puts old (errors_text found) new → are_early (errors text) ≡ true → Puts old (printed (errors text)) new
+    → Puts old (errors_text found) new → are_early (errors text) ≡ true → Puts old (error_lines (errors text)) new
 puts_early text found old new are put early =
     subst (λ (l : List ℕ). Puts old l new) (printed_by (early_faults text) found (errors text) (agree text) are early) put
 

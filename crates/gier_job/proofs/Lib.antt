@@ -1,10 +1,10 @@
 pub mod Reading
 pub mod Rows
-pub mod Told
+pub mod ToldDrum
 pub mod Misses
-pub mod Lives
-pub mod Asked
-pub mod Answered
+pub mod LiveTails
+pub mod TailsAskedFor
+pub mod RunAnswers
 pub mod Runs
 pub mod Early
-pub mod Defined
+pub mod DefinedObject

@@ -15,8 +15,8 @@ use Rattle.gier_exec.specs.References.{tracks_of, notes_of}
 use Rattle.gier_job.specs.Checked.{FoundFor, TakesFor}
 use Rattle.gier_job.specs.Reply.{text_for}
 use Rattle.gier_job.specs.Mortem.{PutsTails}
-use Rattle.gier_job.specs.Behind.{taken_tail, misses_tail, best_plan_tail}
-use Rattle.gier_job.specs.Ran.{IsAnswered, IsPlaced, IsDefined, HasRun, flat_end_tail, flat_tails, flat_has_mortem}
+use Rattle.gier_job.specs.TailsOfRun.{taken_tail, misses_tail, best_plan_tail}
+use Rattle.gier_job.specs.RunAnswer.{IsAnswered, IsPlaced, IsDefined, HasRun, flat_end_tail, flat_tails, flat_has_mortem}
 use Rattle.gier_job.specs.declared.command.Command.{Command}
 use Rattle.gier_job.specs.declared.status.Status.{Status}
 use Rattle.gier_job.specs.declared.status.Status.TheVariants.{Done}

@@ -3,7 +3,7 @@
 use Rattle.std.specs.Prelude.{◌≡◌, ℕ, Bool, true, false, List, [], ◌∷◌, Option}
 use Rattle.gier_io.specs.Device.{Puts}
 use Rattle.gier_kinds.specs.Errors.{Fault, OfSymbols, OfStructure, OfScopes, OfTypes, Errors as AllErrors, TooLong, Listed}
-use Rattle.gier_kinds.specs.ErrorTexts.{printed}
+use Rattle.gier_kinds.specs.ErrorTexts.{error_lines}
 use Rattle.gier_job.specs.declared.status.Status.{Status}
 use Rattle.gier_job.specs.declared.status.Status.TheVariants.{Done, Errors, Alarm, Steps}
 
@@ -21,7 +21,7 @@ are_early (Listed (fault ∷ faults)) = is_early fault.kind
 
 -- Early errors are printed with their lines and nothing else, and a program that ends well or is run has none.
 abbrev pub AnswersEarly : Status → AllErrors → (old new : Option (List ℕ)) → Type 0
-AnswersEarly Errors found old new = are_early found ≡ true → Puts old (printed found) new
+AnswersEarly Errors found old new = are_early found ≡ true → Puts old (error_lines found) new
 AnswersEarly Done found old new = are_early found ≡ false
 AnswersEarly Alarm found old new = are_early found ≡ false
 AnswersEarly Steps found old new = are_early found ≡ false

@@ -8,6 +8,6 @@ pub mod RunTails
 pub mod Reply
 pub mod ReplyExamples
 pub mod Mortem
-pub mod Behind
-pub mod Ran
+pub mod TailsOfRun
+pub mod RunAnswer
 pub mod Early

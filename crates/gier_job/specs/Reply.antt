@@ -3,15 +3,15 @@
 use Rattle.std.specs.Prelude.{◌≡◌, ◌++◌, ◌-◌, ◌/◌, ℕ, suc, Bool, true, false, nat_lt, List, [], ◌∷◌, map, take, length, Option, None, Some}
 use Rattle.gier_symbol.specs.Tape.{program_of, data_of, most_data}
 use Rattle.gier_symbol.specs.Reading.{symbols_of}
-use Rattle.gier_symbol.specs.Assembled.{assembled}
+use Rattle.gier_symbol.specs.Assembly.{assembly}
 use Rattle.gier_sample.specs.Sample.{sample_text}
 use Rattle.gier_tree.specs.Trees.{Program}
-use Rattle.gier_tree.specs.Structure.{written}
+use Rattle.gier_tree.specs.Structure.{program_spelled}
 use Rattle.gier_tree.specs.Hoist.{hoist}
 use Rattle.gier_tree.specs.Object.{code}
 use Rattle.gier_kinds.specs.Errors.{Errors, TooLong, Listed, errors, most_bytes}
-use Rattle.gier_kinds.specs.ErrorTexts.{printed}
-use Rattle.gier_meaning.specs.Told.{Told}
+use Rattle.gier_kinds.specs.ErrorTexts.{error_lines}
+use Rattle.gier_meaning.specs.Observation.{Observation}
 use Rattle.gier_meaning.specs.Meaning.{meaning}
 use Rattle.gier_order.specs.Flat.Run.{flat}
 use Rattle.gier_job.specs.Command.{IsCommand, IsFirstWrong}
@@ -50,7 +50,7 @@ abbrev pub tracks_of : Command → Program → (unread : List ℕ) → List ℕ
 tracks_of c t unread = map (λ (a : ℕ). a / track_words) (flat (code t) 0 unread c.settings.steps c.settings.stack).refs
 
 -- a program that was run, with what is told of its run
-abbrev pub after_run : Command → Program → (unread taken : List ℕ) → Told → Reply
+abbrev pub after_run : Command → Program → (unread taken : List ℕ) → Observation → Reply
 after_run c t unread taken run = record {
   status = status_after run.ending;
   printed = run.printed ++ ending_tail run.ending ++ counts c run (tracks_of c t unread) ++ mortem_for c.mortem run.stop;
@@ -63,7 +63,7 @@ executed true c t unread taken = record { status = Done; printed = []; taken = t
 executed false c t unread taken = after_run c t unread taken (meaning c.settings.stack (hoist t) unread c.settings.steps)
 
 abbrev pub with_errors : Errors → (taken : List ℕ) → Reply
-with_errors found taken = record { status = ErrorsFound; printed = printed found; taken = taken }
+with_errors found taken = record { status = ErrorsFound; printed = error_lines found; taken = taken }
 
 -- Of too long a text one byte more is taken than a program has at most. A text without errors is a program.
 abbrev pub by_errors : Command → (tape : List ℕ) → Errors → Option Program → Reply
@@ -75,7 +75,7 @@ by_errors c tape (Listed []) (Some t) = executed c.check c t (data_for c.sample 
 abbrev pub reply_to : Command → (tape : List ℕ) → Reply
 reply_to c tape =
     let text : List ℕ = text_for c.sample tape in
-    by_errors c tape (errors text) (written (assembled (symbols_of text).symbols).symbols)
+    by_errors c tape (errors text) (program_spelled (assembly (symbols_of text).symbols).symbols)
 
 -- the reply to any words: the first wrong one is told, or the command that they are is obeyed
 pub record IsReply (words : List (List ℕ)) (tape : List ℕ) (reply : Reply) : Type 0 where

@@ -7,7 +7,7 @@ use Rattle.gier_best.specs.Plan.{farthest}
 use Rattle.gier_best.specs.Changes.{changes_of}
 use Rattle.gier_meaning.specs.Live.{Shape, InProgram, InBlock, InProcedure, InEvaluation, Activation, Live, Stop}
 use Rattle.gier_meaning.specs.Outcome.{Alarmed, NoStepLeft, Senseless}
-use Rattle.gier_meaning.specs.Told.{Told, Ending, Ended, Stopped}
+use Rattle.gier_meaning.specs.Observation.{Observation, Ending, Ended, Stopped}
 use Rattle.gier_job.specs.Tails.{alarm_tail, steps_tail, report_tail, table_tail, best_tail, too_long_tail}
 use Rattle.gier_job.specs.declared.command.Command.{Command}
 use Rattle.gier_job.specs.declared.status.Status.{Status}
@@ -53,7 +53,7 @@ plan_tail false moves = best_tail (length moves) moves
 abbrev pub cheapest_tail : (tracks : List ℕ) → (places : ℕ) → List ℕ
 cheapest_tail tracks places = plan_tail (nat_lt most_changes (length (changes_of tracks))) (farthest tracks places)
 
-abbrev pub counts : Command → Told → (tracks : List ℕ) → List ℕ
+abbrev pub counts : Command → Observation → (tracks : List ℕ) → List ℕ
 counts c run tracks =
     if_asked c.report (report_tail run.steps (transfers tracks c.settings.places) run.words)
     ++ if_asked c.table (table_tail (table_from tracks most_places 1))

@@ -7,7 +7,7 @@ ghost use Rattle.gier_job.specs.Checked.{Prints, PrintsErrors, TakesFor, IsNotSp
 ghost use Rattle.gier_job.specs.Command.{IsCommand, IsFew, IsWithin, IsFirstWrong};
 ghost use Rattle.gier_job.specs.Answer.{Refuses};
 ghost use Rattle.gier_job.specs.RunTails.{most_changes};
-ghost use Rattle.gier_job.specs.Ran.{IsRunEnd, HasRun};
+ghost use Rattle.gier_job.specs.RunAnswer.{IsRunEnd, HasRun};
 ghost use Rattle.gier_job.specs.Reply.{text_for};
 ghost use Rattle.gier_job.specs.Early.{AnswersEarly};
 ghost use Rattle.gier_kinds.specs.Errors.{errors};

@@ -1,10 +1,10 @@
 // Runs a checked program: its object is made, run, and what the command asks for is printed behind what the program printed.
 ghost use Rattle.std.specs.Prelude.{◌≡◌, ◌≢◌, ◌≤◌, ◌<◌, ◌+◌, ◌^◌, ◌++◌, ℕ, List, [], IsOk, IsErr, IsErrOf, IfErr, IfOk, IfSome, OnOk, Some, length, map, take, slice_index, is_some, true, false};
 ghost use Rattle.gier_word.specs.Cause.{HasCause, HasRisen};
-ghost use Rattle.gier_text.specs.Kept.{kept};
+ghost use Rattle.gier_text.specs.TablesModel.{tables_model};
 ghost use Rattle.gier_io.specs.Device.{Puts};
 ghost use Rattle.gier_order.specs.Counts.{StandsFor as Counts};
-ghost use Rattle.gier_best.specs.Traced.{HasNoted, AreTracks};
+ghost use Rattle.gier_best.specs.TraceModel.{HasNoted, AreTracks};
 ghost use Rattle.gier_library.specs.Data.{limit};
 ghost use Rattle.gier_order.specs.Flat.Run.{flat};
 ghost use Rattle.gier_order.specs.declared.object.Object.{Object};
@@ -18,11 +18,11 @@ ghost use Rattle.gier_front.specs.Fronted.{IsFronted, HasTextSix};
 ghost use Rattle.gier_job.specs.Command.{IsWithin};
 ghost use Rattle.gier_job.specs.Status.{of_ending, IsOfRun, IsStop};
 ghost use Rattle.gier_job.specs.RunTails.{table_from, most_places};
-ghost use Rattle.gier_job.specs.Ran.{IsRunEnd, IsAnswered, IsDefined};
+ghost use Rattle.gier_job.specs.RunAnswer.{IsRunEnd, IsAnswered, IsDefined};
 ghost use Rattle.gier_frames.specs.Stop.{activations};
 ghost use Rattle.gier_runner.specs.Live.{live_of};
 ghost use Rattle.gier_job.specs.Mortem.{PutsTails};
-ghost use Rattle.gier_job.specs.Behind.{end_tail, taken_tail, misses_tail, best_plan_tail, cost_tails, count_tails, run_tails, has_mortem};
+ghost use Rattle.gier_job.specs.TailsOfRun.{end_tail, taken_tail, misses_tail, best_plan_tail, cost_tails, count_tails, run_tails, has_mortem};
 ghost use Rattle.gier_job.specs.declared.status.Status.TheVariants.{Tape, Printer, Drum as DrumStatus};
 
 use crate::Command;
@@ -54,8 +54,8 @@ pub(crate) fn run_fronted<S: Source, K: Sink, D: Drum>(
 ) -> Status
     requires within { IsWithin command.now.settings }
     requires fronted { IsFronted fronted }
-    requires limit { (kept tables.old).limit ≡ longest }
-    requires no_faults { (kept tables.old).faults ≡ [] }
+    requires limit { (tables_model tables.old).limit ≡ longest }
+    requires no_faults { (tables_model tables.old).faults ≡ [] }
     requires room { all_tracks longest ≤ D.room drum.old }
     requires settings { runner.old.settings ≡ command.now.settings }
     requires traced { command.now.best ≡ true → runner.old.trace.tracks ≡ object_tracks longest }
@@ -68,7 +68,7 @@ pub(crate) fn run_fronted<S: Source, K: Sink, D: Drum>(
         (flat (code_in tracks object) object.start (take limit bytes) command.now.settings.steps command.now.settings.stack)
         result (K.holds out.old) (K.holds out.new) (D.journal drum.new) }
     ensures told { is_some (D.tracks drum.new) ≡ is_some (D.tracks drum.old) }
-    ensures limit { (kept tables.new).limit ≡ longest }
+    ensures limit { (tables_model tables.new).limit ≡ longest }
     ensures room { D.room drum.new ≡ D.room drum.old }
     ensures settings { runner.new.settings ≡ runner.old.settings }
     ensures traces { runner.new.trace.tracks ≡ runner.old.trace.tracks }

@@ -1,14 +1,14 @@
 // The work on one tape, for which all room was taken before: the program is checked, and run where that is asked for.
 ghost use Rattle.std.specs.Prelude.{◌≡◌, ◌≢◌, ◌≤◌, ◌<◌, [], OnOk, IfOk, IsErr, IsErrOf, length, true, false, is_some, ℕ, List, Option, Some};
 ghost use Rattle.gier_word.specs.Cause.{HasRisen};
-ghost use Rattle.gier_text.specs.Kept.{kept};
+ghost use Rattle.gier_text.specs.TablesModel.{tables_model};
 ghost use Rattle.gier_front.specs.declared.stop.FrontStop.TheVariants.{Errors as HasErrors, Read, Drum as DrumStop};
 ghost use Rattle.gier_areas.specs.Areas.{longest, all_tracks, object_tracks};
 ghost use Rattle.gier_front.specs.Fronted.{IsFronted, HasTextSix};
 ghost use Rattle.gier_front.specs.Stops.{NotSpoilt};
 ghost use Rattle.gier_job.specs.Command.{IsFew, IsWithin};
 ghost use Rattle.gier_job.specs.Checked.{Prints, PrintsErrors, TakesFor, FoundFor, IsNotSpoilt};
-ghost use Rattle.gier_job.specs.Ran.{IsRunEnd, HasRun};
+ghost use Rattle.gier_job.specs.RunAnswer.{IsRunEnd, HasRun};
 ghost use Rattle.gier_job.specs.Reply.{text_for};
 ghost use Rattle.gier_job.specs.Early.{AnswersEarly};
 ghost use Rattle.gier_front.specs.Early.{early_faults, FindsEarly};
@@ -40,8 +40,8 @@ pub fn work<S: Source, K: Sink, D: Drum>(
 ) -> Status
     requires few { IsFew command.now.sample }
     requires within { IsWithin command.now.settings }
-    requires limit { (kept tables.old).limit ≡ longest }
-    requires no_faults { (kept tables.old).faults ≡ [] }
+    requires limit { (tables_model tables.old).limit ≡ longest }
+    requires no_faults { (tables_model tables.old).faults ≡ [] }
     requires room { all_tracks longest ≤ D.room drum.old }
     requires settings { runner.old.settings ≡ command.now.settings }
     requires traced { command.now.best ≡ true → runner.old.trace.tracks ≡ object_tracks longest }
@@ -49,7 +49,7 @@ pub fn work<S: Source, K: Sink, D: Drum>(
     ensures not_memory { result ≢ Memory }
 
     // The same room serves again, whatever the answer was.
-    ensures limit { (kept tables.new).limit ≡ longest }
+    ensures limit { (tables_model tables.new).limit ≡ longest }
     ensures room { D.room drum.new ≡ D.room drum.old }
     ensures settings { runner.new.settings ≡ runner.old.settings }
     ensures traces { runner.new.trace.tracks ≡ runner.old.trace.tracks }
@@ -101,17 +101,17 @@ fn compile<S: Source, D: Drum>(
     tables: &mut Tables,
 ) -> Result<Fronted, FrontStop>
     requires few { IsFew command.now.sample }
-    requires limit { (kept tables.old).limit ≡ longest }
-    requires no_faults { (kept tables.old).faults ≡ [] }
+    requires limit { (tables_model tables.old).limit ≡ longest }
+    requires no_faults { (tables_model tables.old).faults ≡ [] }
     requires room { all_tracks longest ≤ D.room drum.old }
     ensures fronted { IfOk result IsFronted }
-    ensures no_faults { OnOk result ((kept tables.new).faults ≡ []) }
-    ensures limit { (kept tables.new).limit ≡ longest }
+    ensures no_faults { OnOk result ((tables_model tables.new).faults ≡ []) }
+    ensures limit { (tables_model tables.new).limit ≡ longest }
     ensures room { D.room drum.new ≡ D.room drum.old }
     ensures takes { FoundFor command.now.sample result (S.left tape.old) (S.left tape.new) }
     ensures tape_later { S.faults tape.old ≤ S.faults tape.new }
     ensures drum_later { D.faults drum.old ≤ D.faults drum.new }
-    ensures errors { IsErrOf result HasErrors → 0 < length (kept tables.new).faults }
+    ensures errors { IsErrOf result HasErrors → 0 < length (tables_model tables.new).faults }
     ensures read { IsErrOf result Read → HasRisen (S.faults tape.old) (S.faults tape.new) }
     ensures drum { IsErrOf result DrumStop → HasRisen (D.faults drum.old) (D.faults drum.new) }
     ensures sound { is_some (D.tracks drum.old) ≡ true → NotSpoilt result }
@@ -120,7 +120,7 @@ fn compile<S: Source, D: Drum>(
     ensures counted { (bytes : List ℕ) → S.left tape.old ≡ Some bytes
         → IfOk result (λ fronted. fronted.bytes ≡ length (text_for command.now.sample bytes)) }
     ensures early { (bytes : List ℕ) → S.left tape.old ≡ Some bytes → is_some (D.tracks drum.old) ≡ true
-        → FindsEarly result (early_faults (text_for command.now.sample bytes)) (kept tables.new).faults }
+        → FindsEarly result (early_faults (text_for command.now.sample bytes)) (tables_model tables.new).faults }
 {
     match command.sample {
         Some(calls) => front(&mut SampleSource::of(calls), drum, tables),
@@ -130,7 +130,7 @@ fn compile<S: Source, D: Drum>(
 
 // The status of a checked program. Its errors are printed.
 fn told<K: Sink>(found: Result<Fronted, FrontStop>, tables: &Tables, out: &mut K) -> Status
-    requires errors { IsErrOf found HasErrors → 0 < length (kept tables.now).faults }
+    requires errors { IsErrOf found HasErrors → 0 < length (tables_model tables.now).faults }
     ensures not_words { result ≢ Words }
     ensures not_memory { result ≢ Memory }
     ensures prints { Prints result (K.holds out.old) (K.holds out.new) }
@@ -141,7 +141,7 @@ fn told<K: Sink>(found: Result<Fronted, FrontStop>, tables: &Tables, out: &mut K
     ensures drum { result ≡ DrumStatus → IsErrOf found DrumStop }
     ensures printer_fault { result ≡ Printer → HasRisen (K.faults out.old) (K.faults out.new) }
     ensures sound { NotSpoilt found → IsNotSpoilt result }
-    ensures early { (text : List ℕ) → FindsEarly found (early_faults text) (kept tables.now).faults
+    ensures early { (text : List ℕ) → FindsEarly found (early_faults text) (tables_model tables.now).faults
         → AnswersEarly result (errors text) (K.holds out.old) (K.holds out.new) }
     ensures printer_later { K.faults out.old ≤ K.faults out.new }
 {

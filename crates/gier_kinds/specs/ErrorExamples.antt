@@ -1,7 +1,7 @@
 -- Errors of program texts, one of each list, and the lists in their order. The lines are those that an independent model prints.
 use Rattle.std.specs.Prelude.{◌≡◌, ◌++◌, ℕ, List, [], codes, length}
 use Rattle.gier_kinds.specs.Errors.{TooLong, Listed, errors, first_filled, five_lists}
-use Rattle.gier_kinds.specs.ErrorTexts.{printed}
+use Rattle.gier_kinds.specs.ErrorTexts.{error_lines}
 
 -- faults of bytes are listed alone, all of them
 abbrev pub wrong_bytes : List ℕ
@@ -88,25 +88,25 @@ each_type_text =
     ++ codes "i := _not 1 _end"
 
 pub record AreErrors : Type 0 where
-  pub wrong_bytes_printed : printed (errors wrong_bytes) ≡
+  pub wrong_bytes_printed : error_lines (errors wrong_bytes) ≡
       codes "line 1 character\n" ++ codes "line 1 word\n" ++ codes "line 2 character\n"
-  pub open_string_printed : printed (errors open_string) ≡ codes "line 2 string\n"
-  pub large_numbers_printed : printed (errors large_numbers) ≡ codes "line 1 number\n" ++ codes "line 2 number\n"
-  pub wrong_structure_printed : printed (errors wrong_structure) ≡ codes "line 2 structure\n"
-  pub structure_at_end_printed : printed (errors structure_at_end) ≡ codes "line 3 structure\n"
-  pub wrong_scopes_printed : printed (errors wrong_scopes) ≡
+  pub open_string_printed : error_lines (errors open_string) ≡ codes "line 2 string\n"
+  pub large_numbers_printed : error_lines (errors large_numbers) ≡ codes "line 1 number\n" ++ codes "line 2 number\n"
+  pub wrong_structure_printed : error_lines (errors wrong_structure) ≡ codes "line 2 structure\n"
+  pub structure_at_end_printed : error_lines (errors structure_at_end) ≡ codes "line 3 structure\n"
+  pub wrong_scopes_printed : error_lines (errors wrong_scopes) ≡
       codes "line 1 declared twice\n" ++ codes "line 1 not declared\n" ++ codes "line 2 not declared\n"
-  pub wrong_types_printed : printed (errors wrong_types) ≡
+  pub wrong_types_printed : error_lines (errors wrong_types) ≡
       codes "line 1 assignment\n" ++ codes "line 2 assignment\n" ++ codes "line 2 operand\n"
-  pub no_errors_printed : printed (errors no_errors) ≡ ([])
-  pub own_types_printed : printed (errors own_types) ≡ codes "line 2 assignment\n"
-  pub quoted_scopes_printed : printed (errors quoted_scopes) ≡ codes "line 2 not declared\n"
-  pub quoted_types_printed : printed (errors quoted_types) ≡ codes "line 2 kind\n"
-  pub nothing_printed : printed (errors nothing) ≡ codes "line 1 structure\n"
-  pub each_scope_text_printed : printed (errors each_scope_text) ≡
+  pub no_errors_printed : error_lines (errors no_errors) ≡ ([])
+  pub own_types_printed : error_lines (errors own_types) ≡ codes "line 2 assignment\n"
+  pub quoted_scopes_printed : error_lines (errors quoted_scopes) ≡ codes "line 2 not declared\n"
+  pub quoted_types_printed : error_lines (errors quoted_types) ≡ codes "line 2 kind\n"
+  pub nothing_printed : error_lines (errors nothing) ≡ codes "line 1 structure\n"
+  pub each_scope_text_printed : error_lines (errors each_scope_text) ≡
       codes "line 1 declared twice\n" ++ codes "line 1 not specified\n" ++ codes "line 1 not formal\n"
       ++ codes "line 2 specified twice\n" ++ codes "line 2 not declared\n" ++ codes "line 3 local in bound\n"
-  pub each_type_text_printed : printed (errors each_type_text) ≡
+  pub each_type_text_printed : error_lines (errors each_type_text) ≡
       codes "line 1 value\n" ++ codes "line 1 bound\n" ++ codes "line 2 kind\n" ++ codes "line 2 parameter count\n"
       ++ codes "line 3 parameter\n" ++ codes "line 4 subscripts\n" ++ codes "line 4 for\n" ++ codes "line 4 condition\n"
       ++ codes "line 4 designational\n" ++ codes "line 4 branches\n" ++ codes "line 4 assignment\n" ++ codes "line 5 assignment\n"
@@ -114,4 +114,4 @@ pub record AreErrors : Type 0 where
   -- a text of the greatest length has the faults of its lists; one byte more, and that it is too long is its only error
   pub longest : (bytes : List ℕ) → length bytes ≡ 524288 → errors bytes ≡ Listed (first_filled (five_lists bytes))
   pub too_long : (bytes : List ℕ) → length bytes ≡ 524289 → errors bytes ≡ TooLong
-  pub too_long_printed : printed TooLong ≡ codes "program too long\n"
+  pub too_long_printed : error_lines TooLong ≡ codes "program too long\n"

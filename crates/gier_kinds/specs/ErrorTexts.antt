@@ -48,6 +48,6 @@ abbrev pub fault_lines : Faults → List ℕ
 fault_lines [] = []
 fault_lines (fault ∷ faults) = fault_line fault ++ fault_lines faults
 
-abbrev pub printed : Errors → List ℕ
-printed TooLong = codes "program too long\n"
-printed (Listed faults) = fault_lines faults
+abbrev pub error_lines : Errors → List ℕ
+error_lines TooLong = codes "program too long\n"
+error_lines (Listed faults) = fault_lines faults

@@ -1,11 +1,11 @@
 -- The errors of a program text: that it is too long, or else the faults of the first of five lists that isn't empty: those of its
 -- bytes, of its numbers, of its structure, of its scopes and of its types. Where there are none, the text is a program.
 use Rattle.std.specs.Prelude.{ℕ, Bool, true, false, nat_lt, List, [], ◌∷◌, map, length, Option, None, Some}
-use Rattle.gier_symbol.specs.Assembled.{assembled}
+use Rattle.gier_symbol.specs.Assembly.{assembly}
 use Rattle.gier_symbol.specs.Listing.{FaultAt, SymbolFault, Listing}
 use Rattle.gier_symbol.specs.Reading.{symbols_of}
 use Rattle.gier_tree.specs.Hoist.{hoist}
-use Rattle.gier_tree.specs.Structure.{structure_fault, written}
+use Rattle.gier_tree.specs.Structure.{structure_fault, program_spelled}
 use Rattle.gier_tree.specs.Trees.{Program}
 use Rattle.gier_scope.specs.Faults.{ScopeFault}
 use Rattle.gier_scope.specs.ScopeFaults.{scope_faults}
@@ -46,13 +46,13 @@ abbrev pub type_list : Option Program → Faults
 type_list None = []
 type_list (Some t) = faults_as OfTypes (type_faults (hoist t))
 
-abbrev pub lists_behind : (read assembled : Listing) → List Faults
-lists_behind read assembled =
-    faults_as OfSymbols read.faults ∷ faults_as OfSymbols assembled.faults ∷ structure_list (structure_fault assembled.symbols)
-    ∷ scope_list (written assembled.symbols) ∷ type_list (written assembled.symbols) ∷ []
+abbrev pub lists_behind : (read assembly : Listing) → List Faults
+lists_behind read assembly =
+    faults_as OfSymbols read.faults ∷ faults_as OfSymbols assembly.faults ∷ structure_list (structure_fault assembly.symbols)
+    ∷ scope_list (program_spelled assembly.symbols) ∷ type_list (program_spelled assembly.symbols) ∷ []
 
 abbrev pub five_lists : List ℕ → List Faults
-five_lists bytes = lists_behind (symbols_of bytes) (assembled (symbols_of bytes).symbols)
+five_lists bytes = lists_behind (symbols_of bytes) (assembly (symbols_of bytes).symbols)
 
 abbrev pub first_filled : List Faults → Faults
 first_filled [] = []

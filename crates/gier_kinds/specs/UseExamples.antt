@@ -2,11 +2,11 @@
 -- The faults are those that an independent model lists.
 use Rattle.std.specs.Prelude.{◌≡◌, ◌++◌, ℕ, List, [], ◌∷◌, codes, Option, Some}
 use Rattle.std.specs.Option.{option_map}
-use Rattle.gier_symbol.specs.Assembled.{assembled}
+use Rattle.gier_symbol.specs.Assembly.{assembly}
 use Rattle.gier_symbol.specs.Listing.{FaultAt}
 use Rattle.gier_symbol.specs.Reading.{symbols_of}
 use Rattle.gier_tree.specs.Hoist.{hoist}
-use Rattle.gier_tree.specs.Structure.{written}
+use Rattle.gier_tree.specs.Structure.{program_spelled}
 use Rattle.gier_kinds.specs.Faults.{TypeFault, WrongUse, WrongSubscripts, WrongCount, WrongActual, WrongBranches, WrongAssignment, WrongOperand, TypeFaults}
 use Rattle.gier_kinds.specs.TypeFaults.{type_faults}
 
@@ -15,7 +15,7 @@ fault kind line = record { kind = kind; line = line }
 
 -- the faults of types of the program that the bytes are, where they are one
 abbrev pub faults_in : List ℕ → Option TypeFaults
-faults_in bytes = option_map (λ t. type_faults (hoist t)) (written (assembled (symbols_of bytes).symbols).symbols)
+faults_in bytes = option_map (λ t. type_faults (hoist t)) (program_spelled (assembly (symbols_of bytes).symbols).symbols)
 
 -- an identifier alone in an expression
 abbrev pub uses_alone : List ℕ

@@ -6,10 +6,10 @@ use Rattle.std.proofs.lemmas.Bool.{cases_lt, cases_eq}
 use Rattle.std.proofs.lemmas.Bool.Decides.{nat_tests}
 use Rattle.std.proofs.lemmas.List.{get_or-set_same, get_or-set_other, get_or_append_left, get_or-append_right, get_or_past, length-map}
 use Rattle.gier_text.specs.declared.tables.Tables.{Tables}
-use Rattle.gier_text.specs.Kept.{Kept, kept, with_at}
-use Rattle.gier_text.specs.Lists.{TableList, list_at, list_in, pushed, with_word, word_at}
-use Rattle.gier_text.proofs.Laid.{list_at-map}
-use Rattle.gier_text.proofs.Waiting.{listed_words}
+use Rattle.gier_text.specs.TablesModel.{TablesModel, tables_model, with_at}
+use Rattle.gier_text.specs.Lists.{TableList, list_at, list_in, with_entry, with_word, word_at}
+use Rattle.gier_text.proofs.ListExtents.{list_at-map}
+use Rattle.gier_text.proofs.OutboxSymbols.{listed_words}
 use Rattle.gier_labels.specs.Labels.{HasLabels, part_of, place_of, word_of}
 use Rattle.gier_labels.proofs.Lists.{changed}
 
@@ -18,14 +18,14 @@ abbrev word_in : TableList → ℕ → ℕ
 word_in list number = if nat_lt (place_of number) list.count then word_at list (place_of number) (part_of number) else 0
 
 -- the list holds as many words as its entries need
-pub long : (room : ℕ) (t : Tables) → HasLabels room (kept t)
-    → length (list_at (kept t).lists 0).words ≡ 2 * (list_at (kept t).lists 0).count
+pub long : (room : ℕ) (t : Tables) → HasLabels room (tables_model t)
+    → length (list_at (tables_model t).lists 0).words ≡ 2 * (list_at (tables_model t).lists 0).count
 long room t h =
     let il : 0 < length t.lists.items = omega (arith, h.lists, length-map t.lists.items (list_in t.words.words)) in
     let there = list_at-map t.words.words t.lists.items 0 in
-    let words : length (list_at (kept t).lists 0).words ≡ (list_at (kept t).lists 0).width * (list_at (kept t).lists 0).count = rw there
+    let words : length (list_at (tables_model t).lists 0).words ≡ (list_at (tables_model t).lists 0).width * (list_at (tables_model t).lists 0).count = rw there
     (listed_words t.lists.items t.used 0 t.words.words t.laid (omega (arith, t.sized, t.fits)) il) in
-    words ∙ ap (λ w. w * (list_at (kept t).lists 0).count) h.width
+    words ∙ ap (λ w. w * (list_at (tables_model t).lists 0).count) h.width
 
 part_small : (b : Bool) → (if b then 0 else 1) < 2
 part_small true = omega arith
@@ -39,7 +39,7 @@ two_zeros k = elim (cases_lt k 2) [
 
 -- an entry more, of zeros
 zeros_in : (list : TableList) (number : ℕ) → list.width ≡ 2 → length list.words ≡ 2 * list.count
-    → word_in (pushed list (0 ∷ 0 ∷ [])) number ≡ word_in list number
+    → word_in (with_entry list (0 ∷ 0 ∷ [])) number ≡ word_in list number
 zeros_in list number wide all =
     let p = place_of number in
     let q = part_of number in
@@ -94,27 +94,27 @@ other_in list label number word wide ne =
     let at = list.width * place_of label + part_of label in
     ap (λ (w : ℕ). if nat_lt (place_of label) list.count then w else 0) (get_or-set_other list.words own at word 0 (rw wide (apart label number ne)))
 
-word_as : (t u : Kept) (new : TableList) (number : ℕ) → 1 ≤ length t.lists → u ≡ with_at t 0 new → word_of u number ≡ word_in new number
+word_as : (t u : TablesModel) (new : TableList) (number : ℕ) → 1 ≤ length t.lists → u ≡ with_at t 0 new → word_of u number ≡ word_in new number
 word_as t u new number some same = ap (λ (l : TableList). word_in l number) (changed t u new some same)
 
-pub words_pushed : (room : ℕ) (t : Tables) (u : Kept) → HasLabels room (kept t)
-    → u ≡ with_at (kept t) 0 (pushed (list_at (kept t).lists 0) (0 ∷ 0 ∷ [])) → (number : ℕ) → word_of u number ≡ word_of (kept t) number
+pub words_pushed : (room : ℕ) (t : Tables) (u : TablesModel) → HasLabels room (tables_model t)
+    → u ≡ with_at (tables_model t) 0 (with_entry (list_at (tables_model t).lists 0) (0 ∷ 0 ∷ [])) → (number : ℕ) → word_of u number ≡ word_of (tables_model t) number
 words_pushed room t u h same number =
-    let list = list_at (kept t).lists 0 in
-    word_as (kept t) u (pushed list (0 ∷ 0 ∷ [])) number h.lists same ∙ zeros_in list number h.width (long room t h)
+    let list = list_at (tables_model t).lists 0 in
+    word_as (tables_model t) u (with_entry list (0 ∷ 0 ∷ [])) number h.lists same ∙ zeros_in list number h.width (long room t h)
 
-pub word_set : (room : ℕ) (t : Tables) (u : Kept) (number word : ℕ) → HasLabels room (kept t)
-    → place_of number < (list_at (kept t).lists 0).count
-    → u ≡ with_at (kept t) 0 (with_word (list_at (kept t).lists 0) (place_of number) (part_of number) word) → word_of u number ≡ word
+pub word_set : (room : ℕ) (t : Tables) (u : TablesModel) (number word : ℕ) → HasLabels room (tables_model t)
+    → place_of number < (list_at (tables_model t).lists 0).count
+    → u ≡ with_at (tables_model t) 0 (with_word (list_at (tables_model t).lists 0) (place_of number) (part_of number) word) → word_of u number ≡ word
 word_set room t u number word h there same =
-    let list = list_at (kept t).lists 0 in
-    word_as (kept t) u (with_word list (place_of number) (part_of number) word) number h.lists same
+    let list = list_at (tables_model t).lists 0 in
+    word_as (tables_model t) u (with_word list (place_of number) (part_of number) word) number h.lists same
     ∙ set_in list number word h.width (long room t h) there
 
-pub words_set : (room : ℕ) (t : Tables) (u : Kept) (number word : ℕ) → HasLabels room (kept t)
-    → u ≡ with_at (kept t) 0 (with_word (list_at (kept t).lists 0) (place_of number) (part_of number) word) → (label : ℕ) → label ≢ number
-    → word_of u label ≡ word_of (kept t) label
+pub words_set : (room : ℕ) (t : Tables) (u : TablesModel) (number word : ℕ) → HasLabels room (tables_model t)
+    → u ≡ with_at (tables_model t) 0 (with_word (list_at (tables_model t).lists 0) (place_of number) (part_of number) word) → (label : ℕ) → label ≢ number
+    → word_of u label ≡ word_of (tables_model t) label
 words_set room t u number word h same label ne =
-    let list = list_at (kept t).lists 0 in
-    word_as (kept t) u (with_word list (place_of number) (part_of number) word) label h.lists same
+    let list = list_at (tables_model t).lists 0 in
+    word_as (tables_model t) u (with_word list (place_of number) (part_of number) word) label h.lists same
     ∙ other_in list label number word h.width ne

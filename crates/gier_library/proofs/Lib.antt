@@ -1,4 +1,4 @@
-pub mod Takes
+pub mod ReadsInOrder
 pub mod Numbers
-pub mod Longer
-pub mod Told
+pub mod LongerData
+pub mod ToldSource

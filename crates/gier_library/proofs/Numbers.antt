@@ -8,7 +8,7 @@ use Rattle.gier_library.specs.Places.{read_from, read_after, outcome_at_end}
 use Rattle.gier_library.specs.declared.number.Place.{Place}
 use Rattle.gier_library.specs.declared.number.Place.TheVariants.{Blank, Signed, Digits}
 use Rattle.gier_library.specs.declared.number.Step.TheVariants.{Goes, Stops}
-use Rattle.gier_library.proofs.Takes.{takes_nothing, takes_more}
+use Rattle.gier_library.proofs.ReadsInOrder.{takes_nothing, takes_more}
 
 -- so many bytes are taken before all this
 abbrev pub behind : ℕ → Reading → Reading

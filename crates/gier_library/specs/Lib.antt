@@ -1,5 +1,5 @@
 pub mod Data
-pub mod Seen
+pub mod DataView
 pub mod Places
 pub mod Answers
 pub mod Prints

@@ -17,22 +17,22 @@ pub struct Data<'a, S> {
     source: &'a mut S,
     given: u64,
     ended: bool,
-    ghost limited: { given ≤ limit },
-    ghost below: { ended ≡ false → given < limit },
+    ghost limited: { bytes_given ≤ limit },
+    ghost below: { has_ended ≡ false → bytes_given < limit },
 }
 
 impl<'a, S: Source> Data<'a, S> {
     ghost use Rattle.std.specs.Prelude.{◌≡◌, true, Ok, None};
     ghost use Rattle.gier_word.specs.Cause.{HasCause};
     ghost use Rattle.gier_library.specs.Data.{Takes, bytes_of};
-    ghost use Rattle.gier_library.specs.Seen.{source_of, given, ended, stand_of};
+    ghost use Rattle.gier_library.specs.DataView.{source_of, bytes_given, has_ended, stand_of};
 
     /// Data of which nothing was read.
     pub fn of(source: &'a mut S) -> Data<'a, S>
         ensures same_reference { result.source.ghost_name ≡ source.entry.ghost_name }
         ensures source { source_of result ≡ source.old }
-        ensures given { given result ≡ 0 }
-        ensures ended { ended result ≡ false }
+        ensures given { bytes_given result ≡ 0 }
+        ensures ended { has_ended result ≡ false }
     {
         Data {
             source,
@@ -45,8 +45,8 @@ impl<'a, S: Source> Data<'a, S> {
     pub(crate) fn next(&mut self) -> Result<Option<u8>, Failed>
         ensures same_reference { self.new.source.ghost_name ≡ self.old.source.ghost_name }
         ensures taken { Takes (stand_of S.left self.old) (bytes_of result) (stand_of S.left self.new) }
-        ensures end { result ≡ Ok None → ended self.new ≡ true }
-        ensures stays { ended self.old ≡ true → (result ≡ Ok None) × (source_of self.new ≡ source_of self.old) }
+        ensures end { result ≡ Ok None → has_ended self.new ≡ true }
+        ensures stays { has_ended self.old ≡ true → (result ≡ Ok None) × (source_of self.new ≡ source_of self.old) }
         ensures cause { HasCause (S.faults (source_of self.old)) (S.faults (source_of self.new)) result }
     {
         if self.ended {

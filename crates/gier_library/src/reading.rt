@@ -3,7 +3,7 @@ ghost use Rattle.std.specs.Prelude.{◌≡◌, true, [], Ok};
 ghost use Rattle.gier_word.specs.Cause.{HasCause};
 ghost use Rattle.gier_word.specs.Standard.{integer_read, character_read};
 ghost use Rattle.gier_library.specs.Data.{Reads};
-ghost use Rattle.gier_library.specs.Seen.{source_of, ended, stand_of};
+ghost use Rattle.gier_library.specs.DataView.{source_of, has_ended, stand_of};
 ghost use Rattle.gier_library.specs.Answers.{integer_answer, character_answer};
 
 use crate::Data;
@@ -30,8 +30,8 @@ pub enum InStop {
 pub fn in_integer<S: Source>(input: &mut Data<S>) -> Result<Int40, InStop>
     ensures same_reference { input.new.source.ghost_name ≡ input.old.source.ghost_name }
     ensures read { Reads integer_read (stand_of S.left input.old) (integer_answer result) (stand_of S.left input.new) }
-    ensures over { ended input.old ≡ true → integer_answer result ≡ Ok (integer_read []).outcome }
-    ensures stays { ended input.old ≡ true → source_of input.new ≡ source_of input.old }
+    ensures over { has_ended input.old ≡ true → integer_answer result ≡ Ok (integer_read []).outcome }
+    ensures stays { has_ended input.old ≡ true → source_of input.new ≡ source_of input.old }
     ensures cause { HasCause (S.faults (source_of input.old)) (S.faults (source_of input.new)) (integer_answer result) }
 {
     let mut place = Place::Blank;
@@ -53,8 +53,8 @@ pub fn in_integer<S: Source>(input: &mut Data<S>) -> Result<Int40, InStop>
 pub fn in_char<S: Source>(input: &mut Data<S>) -> Result<Int40, Failed>
     ensures same_reference { input.new.source.ghost_name ≡ input.old.source.ghost_name }
     ensures read { Reads character_read (stand_of S.left input.old) (character_answer result) (stand_of S.left input.new) }
-    ensures over { ended input.old ≡ true → character_answer result ≡ Ok (character_read []).outcome }
-    ensures stays { ended input.old ≡ true → source_of input.new ≡ source_of input.old }
+    ensures over { has_ended input.old ≡ true → character_answer result ≡ Ok (character_read []).outcome }
+    ensures stays { has_ended input.old ≡ true → source_of input.new ≡ source_of input.old }
     ensures cause { HasCause (S.faults (source_of input.old)) (S.faults (source_of input.new)) result }
 {
     match input.next() {

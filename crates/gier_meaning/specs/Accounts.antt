@@ -1,7 +1,7 @@
 -- The accounts of a run: the six places that charge a step, and what takes room. `limit` is the number of permitted words.
 use Rattle.std.specs.Prelude.{ℕ, zero, suc, ◌∷◌, Option, Some, None}
 use Rattle.gier_word.specs.declared.alarm.Alarm.TheVariants.{Stack}
-use Rattle.gier_meaning.specs.Entry.{Entry, NoStep, NoRoom, Enters, entry, taken}
+use Rattle.gier_meaning.specs.Entry.{Entry, NoStep, NoRoom, Enters, entry, live_after_taking}
 use Rattle.gier_meaning.specs.Live.{Shape, Live, live_words, with_elements}
 use Rattle.gier_meaning.specs.State.{State}
 use Rattle.gier_meaning.specs.Outcome.{Outcome, Gives, Alarmed, NoStepLeft, stops}
@@ -37,4 +37,4 @@ module _ (limit : ℕ) where
 
   -- an array takes room for its elements, which belongs to its block
   abbrev pub take_elements : {K : Type 0} → ℕ → (line : ℕ) → Live → State K → Outcome K Live
-  take_elements n line live s = room_by (taken limit s.most (live_words live) n) n line live s
+  take_elements n line live s = room_by (live_after_taking limit s.most (live_words live) n) n line live s

@@ -3,10 +3,10 @@ use Rattle.std.specs.Prelude.{◌&&◌, ℕ, ◌*◌, ◌-ℤ◌, ◌+ℤ◌, �
 use Rattle.gier_meaning.specs.State.{Pair}
 
 -- the values of the bounds, two by two
-abbrev pub paired : List ℤ → List Pair
-paired [] = []
-paired (lower ∷ []) = []
-paired (lower ∷ upper ∷ values) = record { lower = lower; upper = upper } ∷ paired values
+abbrev pub bound_pairs : List ℤ → List Pair
+bound_pairs [] = []
+bound_pairs (lower ∷ []) = []
+bound_pairs (lower ∷ upper ∷ values) = record { lower = lower; upper = upper } ∷ bound_pairs values
 
 -- no upper bound is below its lower one (Report 5.2.4.2 says that an array is defined only then)
 abbrev pub are_bounds : List Pair → Bool

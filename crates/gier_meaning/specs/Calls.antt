@@ -17,7 +17,7 @@ use Rattle.gier_meaning.specs.Standard.{standard_alone, standard_of, prints_text
 use Rattle.gier_meaning.specs.What.{What, kinds}
 use Rattle.gier_meaning.specs.Room.{procedure_room}
 use Rattle.gier_meaning.specs.Passing.{is_by_value, agree, actual_kinds, meant}
-use Rattle.gier_meaning.specs.Doing.{Doing}
+use Rattle.gier_meaning.specs.Computation.{Computation}
 use Rattle.gier_meaning.specs.Bodies.{Body, ProcedureBody}
 use Rattle.gier_meaning.specs.Tasks.{Passed, AValue, AName, Next}
 use Rattle.gier_meaning.specs.Names.{what_of, value_of}
@@ -59,38 +59,38 @@ abbrev pub standard_formals : Standard → List Kind
 standard_formals OutText = kind.String ∷ []
 standard_formals _ = kind.IntegerByValue ∷ []
 
-abbrev pub standard_passed : Standard → List Passed → (line : ℕ) → Doing ℤ
+abbrev pub standard_passed : Standard → List Passed → (line : ℕ) → Computation ℤ
 standard_passed standard (AValue value ∷ []) line live s = standard_of standard value line live s
 standard_passed OutText (AName (AText bytes) ∷ []) line live s = prints_text bytes s
 standard_passed _ _ line live s = senseless line live s
 
-abbrev pub standard_call : Standard → Exprs → (List Kind → State Body → Outcome Body (List Passed)) → (line : ℕ) → Doing ℤ
+abbrev pub standard_call : Standard → Exprs → (List Kind → State Body → Outcome Body (List Passed)) → (line : ℕ) → Computation ℤ
 standard_call standard NoExprs handed line live s = standard_alone standard line live s
 standard_call standard (MoreExprs e es) handed line live s =
     then_do (handed (standard_formals standard) s) (λ passed s1. standard_passed standard passed line live s1)
 
 module _ (limit : ℕ) where
   -- a procedure is activated
-  abbrev pub activation : Next → (own : ℕ) → Kind → List Formal → Statement → List Passed → (line : ℕ) → Doing ℤ
+  abbrev pub activation : Next → (own : ℕ) → Kind → List Formal → Statement → List Passed → (line : ℕ) → Computation ℤ
   activation next own kind formals body passed line live s =
       enter limit (InProcedure line) (procedure_room (what_of s) kind formals body) line live s
       (λ live1 s1. next.procedure own kind formals body passed live1 s1)
 
   -- what a name comes to for a formal: its value, or itself
-  abbrev pub evaluated_one : Next → Kind → Name → (line : ℕ) → Doing Passed
+  abbrev pub evaluated_one : Next → Kind → Name → (line : ℕ) → Computation Passed
   evaluated_one next formal name line live s =
       either (is_by_value formal) s
       (λ s1. then_do (value_of limit next name line live s1) (λ value s2. Gives (AValue value) s2))
       (λ s1. Gives (AName name) s1)
 
-  abbrev pub evaluated : Next → List Kind → List Name → (line : ℕ) → Doing (List Passed)
+  abbrev pub evaluated : Next → List Kind → List Name → (line : ℕ) → Computation (List Passed)
   evaluated next [] names line live s = Gives [] s
   evaluated next (formal ∷ formals) [] line live s = Gives [] s
   evaluated next (formal ∷ formals) (name ∷ names) line live s =
       then_do (evaluated_one next formal name line live s) (λ passed s1.
       then_do (evaluated next formals names line live s1) (λ rest s2. Gives (passed ∷ rest) s2))
 
-  abbrev pub formal_call : Next → Entity Body → Exprs → (line : ℕ) → Doing ℤ
+  abbrev pub formal_call : Next → Entity Body → Exprs → (line : ℕ) → Computation ℤ
   formal_call next (Kept (ProcedureBody own kind formals body)) actuals line live s =
       either (agree (kinds formals) (actual_kinds (what_of s) actuals)) s
       (λ s1. then_do (evaluated next (kinds formals) (passed_names (what_of s1) (kinds formals) actuals) line live s1)
@@ -99,12 +99,12 @@ module _ (limit : ℕ) where
   formal_call next _ actuals line live s = senseless line live s
 
   -- `handed` hands the actuals over to formals of these kinds
-  abbrev pub declared_call : Next → Entity Body → (List Kind → State Body → Outcome Body (List Passed)) → (line : ℕ) → Doing ℤ
+  abbrev pub declared_call : Next → Entity Body → (List Kind → State Body → Outcome Body (List Passed)) → (line : ℕ) → Computation ℤ
   declared_call next (Kept (ProcedureBody own kind formals body)) handed line live s =
       then_do (handed (kinds formals) s) (λ passed s1. activation next own kind formals body passed line live s1)
   declared_call next _ handed line live s = senseless line live s
 
-  abbrev pub call : Next → Name → Exprs → (List Kind → State Body → Outcome Body (List Passed)) → (line : ℕ) → Doing ℤ
+  abbrev pub call : Next → Name → Exprs → (List Kind → State Body → Outcome Body (List Passed)) → (line : ℕ) → Computation ℤ
   call next (AProcedure n) actuals handed line live s = declared_call next (s.store n) handed line live s
   call next (AFormalProcedure n) actuals handed line live s = formal_call next (s.store n) actuals line live s
   call next (AStandard standard) actuals handed line live s = standard_call standard actuals handed line live s

@@ -3,7 +3,7 @@
 use Rattle.std.specs.Prelude.{ℕ, List, [], ◌∷◌}
 use Rattle.gier_meaning.specs.Tree.{Name, Identifier, AnEntity, AProcedure, AFormalProcedure, AText, AStandard, AnActual, Expr, Number, Logical, Alone, Subscripted, Called, Bracketed, Prefixed, Joined, IfExpr, Quoted, Exprs, NoExprs, MoreExprs, Element, Once, StepUntil, While, Statement, Labelled, Dummy, Compound, Block, Assign, GoTo, CallOf, If, IfElse, For, Statements, NoStatements, MoreStatements, Declarations, NoDeclarations, Variables, Arrays, Switch, Procedure}
 use Rattle.gier_meaning.specs.Scopes.{labels, of_block, identifiers_of, of_procedure}
-use Rattle.gier_meaning.specs.Maps.{Map, hidden, hidden_in_body}
+use Rattle.gier_meaning.specs.Maps.{Map, map_without, hidden_in_body}
 
 -- by the map for uses, or by that for left parts
 abbrev pub close_name : (ℕ → Name) → Name → Name
@@ -59,14 +59,14 @@ abbrev mutual
   close_in m Dummy = Dummy
   close_in m (Compound ss) = Compound (close_statements m ss)
   close_in m (Block line ds ss) =
-      Block line (close_declarations (hidden (identifiers_of (of_block ds ss)) m) ds) (close_statements (hidden (identifiers_of (of_block ds ss)) m) ss)
+      Block line (close_declarations (map_without (identifiers_of (of_block ds ss)) m) ds) (close_statements (map_without (identifiers_of (of_block ds ss)) m) ss)
   close_in m (Assign lefts e) = Assign (close_lefts m lefts) (close m.used e)
   close_in m (GoTo line e) = GoTo line (close m.used e)
   close_in m (CallOf e) = CallOf (close m.used e)
   close_in m (If test s) = If (close m.used test) (close_in m s)
   close_in m (IfElse test s other) = IfElse (close m.used test) (close_in m s) (close_in m other)
   close_in m (For line variable place elements s) =
-      For line (close_name m.used variable) place (close_elements m elements) (close_in (hidden (labels s) m) s)
+      For line (close_name m.used variable) place (close_elements m elements) (close_in (map_without (labels s) m) s)
 
   pub close_statements : Map → Statements → Statements
   close_statements m NoStatements = NoStatements

@@ -3,8 +3,8 @@
 use Rattle.std.specs.Prelude.{ℕ, zero, suc, ◌+◌, max, nat_lt, Option, Some, None, if◌then◌else◌}
 
 -- the greatest number of live words after n more are taken; None where they are more than the limit
-abbrev pub taken : (limit most live n : ℕ) → Option ℕ
-taken limit most live n = if nat_lt limit (live + n) then None else Some (max most (live + n))
+abbrev pub live_after_taking : (limit most live n : ℕ) → Option ℕ
+live_after_taking limit most live n = if nat_lt limit (live + n) then None else Some (max most (live + n))
 
 pub data Entry : Type 0 where
   NoStep : Entry
@@ -17,4 +17,4 @@ with_room left (Some most) = Enters left most
 
 abbrev pub entry : (limit left most live room : ℕ) → Entry
 entry limit zero most live room = NoStep
-entry limit (suc left) most live room = with_room left (taken limit most live room)
+entry limit (suc left) most live room = with_room left (live_after_taking limit most live room)

@@ -2,20 +2,20 @@
 use Rattle.std.specs.Prelude.{◌≡◌, ℕ, List, [], Option, Some}
 use Rattle.gier_tree.specs.Trees.{Name, NextName, Byte, LabelPlace, TypeWord, IntegerType, BooleanType, Expr, Simple, OneSimple, Implication, OneImplication, Disjunction, OneDisjunction, Conjunction, OneConjunction, Negation, OneNegation, Relation, OneRelation, Arithmetic, OneArithmetic, Term, OneTerm, Factor, OneFactor, Numeral, OneCall, Alone, only, Basic, Statement, OneUnconditional, MkUnconditional, Program}
 use Rattle.gier_meaning.specs.Live.{Shape, Activation, Stop}
-use Rattle.gier_meaning.specs.Told.{Ending, Told}
+use Rattle.gier_meaning.specs.Observation.{Ending, Observation}
 
 pub record Example : Type 0 where
   pub program : Program
   pub unread : List ℕ
   pub permitted : ℕ
   pub limit : ℕ
-  pub told : Told
+  pub told : Observation
 
 -- a definition of the meaning tells of this program what the example says
-abbrev pub IsTold : ((limit : ℕ) → Program → (unread : List ℕ) → (permitted : ℕ) → Told) → Example → Type 0
+abbrev pub IsTold : ((limit : ℕ) → Program → (unread : List ℕ) → (permitted : ℕ) → Observation) → Example → Type 0
 IsTold meaning example = meaning example.limit example.program example.unread example.permitted ≡ example.told
 
-abbrev pub told_as : List ℕ → Ending → (steps words : ℕ) → List ℕ → Option Stop → Told
+abbrev pub told_as : List ℕ → Ending → (steps words : ℕ) → List ℕ → Option Stop → Observation
 told_as printed ending steps words unread stop =
     record { printed = printed; ending = ending; steps = steps; words = words; unread = unread; stop = stop }
 

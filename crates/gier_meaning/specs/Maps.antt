@@ -32,8 +32,8 @@ abbrev pub hidden_from : List ℕ → (ℕ → Name) → ℕ → Name
 hidden_from xs names x = if is_among x xs then Identifier x else names x
 
 -- what an inner scope declares stays as it is
-abbrev pub hidden : List ℕ → Map → Map
-hidden xs m = record { used = hidden_from xs m.used; assigned = hidden_from xs m.assigned }
+abbrev pub map_without : List ℕ → Map → Map
+map_without xs m = record { used = hidden_from xs m.used; assigned = hidden_from xs m.assigned }
 
 -- a function's own left parts stay until it is activated
 abbrev pub own_left : Kind → ℕ → List ℕ
@@ -46,7 +46,7 @@ abbrev pub hidden_in_body : Kind → (own : ℕ) → List ℕ → Map → Map
 hidden_in_body kind own xs m = record { used = hidden_from xs m.used; assigned = hidden_from (own_left kind own ++ xs) m.assigned }
 
 -- entities from n on, for these identifiers
-abbrev pub numbered : ℕ → List Declared → List Binding
-numbered n [] = []
-numbered n (Quantity x ∷ ds) = Means x (AnEntity n) ∷ numbered (suc n) ds
-numbered n (ProcedureName x ∷ ds) = Means x (AProcedure n) ∷ numbered (suc n) ds
+abbrev pub entity_bindings : ℕ → List Declared → List Binding
+entity_bindings n [] = []
+entity_bindings n (Quantity x ∷ ds) = Means x (AnEntity n) ∷ entity_bindings (suc n) ds
+entity_bindings n (ProcedureName x ∷ ds) = Means x (AProcedure n) ∷ entity_bindings (suc n) ds

@@ -4,7 +4,7 @@ use Rattle.gier_word.specs.declared.alarm.Alarm.TheVariants.{Assignment, Stack}
 use Rattle.gier_tree.specs.Trees.{Program}
 use Rattle.gier_meaning.specs.Tree.{Meant, AsExpression, AsVariable, AsLabel, AsFormal, Expr, Element, Statement, Statements, Whole}
 use Rattle.gier_meaning.specs.Plain.{plain}
-use Rattle.gier_meaning.specs.Entry.{taken}
+use Rattle.gier_meaning.specs.Entry.{live_after_taking}
 use Rattle.gier_meaning.specs.Live.{InProgram}
 use Rattle.gier_meaning.specs.State.{State}
 use Rattle.gier_meaning.specs.Address.{Address}
@@ -12,10 +12,10 @@ use Rattle.gier_meaning.specs.Outcome.{Outcome, Alarmed, Finished, stops, sensel
 use Rattle.gier_meaning.specs.Accounts.{with_most}
 use Rattle.gier_meaning.specs.Scopes.{labels, quantities}
 use Rattle.gier_meaning.specs.Room.{program_room}
-use Rattle.gier_meaning.specs.Maps.{Binding, map_of, numbered}
+use Rattle.gier_meaning.specs.Maps.{Binding, map_of, entity_bindings}
 use Rattle.gier_meaning.specs.Close.{close_in}
-use Rattle.gier_meaning.specs.Turns.{entities_from}
-use Rattle.gier_meaning.specs.Doing.{Doing}
+use Rattle.gier_meaning.specs.TurnLabels.{entities_from}
+use Rattle.gier_meaning.specs.Computation.{Computation}
 use Rattle.gier_meaning.specs.Bodies.{Body}
 use Rattle.gier_meaning.specs.Tasks.{Loop, Next}
 use Rattle.gier_meaning.specs.Names.{what_of}
@@ -23,8 +23,8 @@ use Rattle.gier_meaning.specs.Expressions.{value, address, destination}
 use Rattle.gier_meaning.specs.Loops.{again}
 use Rattle.gier_meaning.specs.Statements.{run, resume_all}
 use Rattle.gier_meaning.specs.Blocks.{entered_block, entered_procedure, closed_body}
-use Rattle.gier_meaning.specs.Standing.{standard_bindings, beginning}
-use Rattle.gier_meaning.specs.Told.{Told, told}
+use Rattle.gier_meaning.specs.Standing.{standard_bindings, initial_state}
+use Rattle.gier_meaning.specs.Observation.{Observation, observation}
 
 -- nothing is entered without a step
 abbrev pub nothing_entered : Next
@@ -40,18 +40,18 @@ nothing_entered = record {
 
 module _ (limit : ℕ) where
   -- only an actual that is a variable, or a formal by name that gives one, has an address
-  abbrev pub actual_address : Next → Meant → Expr → (line : ℕ) → Doing Address
+  abbrev pub actual_address : Next → Meant → Expr → (line : ℕ) → Computation Address
   actual_address next AsExpression e line live s = stops (Alarmed Assignment) line live s
   actual_address next AsVariable e line live s = address limit next e live s
   actual_address next AsLabel e line live s = senseless line live s
   actual_address next AsFormal e line live s = address limit next e live s
 
   -- the rest of the statements of a scope, in which a go to may come again
-  abbrev pub rest_run : Next → (label : ℕ) → List ℕ → List Binding → Statements → Doing Finished
+  abbrev pub rest_run : Next → (label : ℕ) → List ℕ → List Binding → Statements → Computation Finished
   rest_run next label own turn ss live s =
       caught own (λ label1 s1. next.rest label1 own turn ss live s1) (resume_all limit next label turn ss live s)
 
-  abbrev pub turns_again : Next → Loop → Element → List Element → Doing Finished
+  abbrev pub turns_again : Next → Loop → Element → List Element → Computation Finished
   turns_again next loop element elements live s =
       again limit next loop (λ inner s1. run limit next inner loop.body live s1) element elements live s
 
@@ -80,11 +80,11 @@ module _ (limit : ℕ) where
   abbrev pub executed : (permitted : ℕ) → (line : ℕ) → Statement → (own : List ℕ) → State Body → Outcome Body Finished
   executed permitted line s own st =
       let room : ℕ = program_room (what_of st) s in
-      program_run (within permitted) line s own (taken limit 0 0 room) room st
+      program_run (within permitted) line s own (live_after_taking limit 0 0 room) room st
 
-  abbrev pub meaning : Program → (unread : List ℕ) → (permitted : ℕ) → Told
+  abbrev pub meaning : Program → (unread : List ℕ) → (permitted : ℕ) → Observation
   meaning program unread permitted =
       let whole : Whole = plain program in
       let own : List ℕ = labels whole.statement in
-      let closed : Statement = close_in (map_of (numbered 0 (quantities own) ++ standard_bindings)) whole.statement in
-      told permitted (executed permitted whole.line closed (entities_from 0 own) (beginning unread permitted))
+      let closed : Statement = close_in (map_of (entity_bindings 0 (quantities own) ++ standard_bindings)) whole.statement in
+      observation permitted (executed permitted whole.line closed (entities_from 0 own) (initial_state unread permitted))

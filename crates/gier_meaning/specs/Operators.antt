@@ -24,19 +24,19 @@ abbrev pub are_alike : Bool → Bool → Bool
 are_alike true b = b
 are_alike false b = not b
 
-abbrev pub joined : Operator → ℤ → ℤ → Result ℤ Spoil
-joined (Adds Add) a b = sum_of a b
-joined (Adds Subtract) a b = difference_of a b
-joined (Multiplies Multiply) a b = product_of a b
-joined (Multiplies Divide) a b = quotient_of a b
-joined Raises a b = power_of a b
-joined (Compares op) a b = Ok (truth (compares op a b))
-joined Ands a b = Ok (truth (is_true a && is_true b))
-joined Ors a b = Ok (truth (is_true a || is_true b))
-joined Implies a b = Ok (truth (not (is_true a) || is_true b))
-joined Equals a b = Ok (truth (are_alike (is_true a) (is_true b)))
+abbrev pub apply_operator : Operator → ℤ → ℤ → Result ℤ Spoil
+apply_operator (Adds Add) a b = sum_of a b
+apply_operator (Adds Subtract) a b = difference_of a b
+apply_operator (Multiplies Multiply) a b = product_of a b
+apply_operator (Multiplies Divide) a b = quotient_of a b
+apply_operator Raises a b = power_of a b
+apply_operator (Compares op) a b = Ok (truth (compares op a b))
+apply_operator Ands a b = Ok (truth (is_true a && is_true b))
+apply_operator Ors a b = Ok (truth (is_true a || is_true b))
+apply_operator Implies a b = Ok (truth (not (is_true a) || is_true b))
+apply_operator Equals a b = Ok (truth (are_alike (is_true a) (is_true b)))
 
-abbrev pub prefixed : Prefix → ℤ → Result ℤ Spoil
-prefixed (Signs Add) a = Ok a
-prefixed (Signs Subtract) a = negative_of a
-prefixed Nots a = Ok (truth (not (is_true a)))
+abbrev pub apply_prefix : Prefix → ℤ → Result ℤ Spoil
+apply_prefix (Signs Add) a = Ok a
+apply_prefix (Signs Subtract) a = negative_of a
+apply_prefix Nots a = Ok (truth (not (is_true a)))

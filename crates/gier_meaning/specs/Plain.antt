@@ -87,11 +87,11 @@ abbrev pub more_names : List tree.NextName → List tree.Name
 more_names [] = []
 more_names (next ∷ rest) = next.name ∷ more_names rest
 
-abbrev pub listed : tree.Names → List tree.Name
-listed (MkNames name rest) = name ∷ more_names rest
+abbrev pub name_list : tree.Names → List tree.Name
+name_list (MkNames name rest) = name ∷ more_names rest
 
 abbrev pub names : tree.Names → List Name
-names ns = map name_of (listed ns)
+names ns = map name_of (name_list ns)
 
 abbrev pub first_line : tree.Names → ℕ
 first_line (MkNames name rest) = name.line
@@ -135,13 +135,13 @@ is_in x (name ∷ rest) = (x == name.number) || is_in x rest
 
 abbrev pub is_by_value : ℕ → tree.ValuePart → Bool
 is_by_value x tree.NoValues = false
-is_by_value x (tree.ValueList line ns semicolon) = is_in x (listed ns)
+is_by_value x (tree.ValueList line ns semicolon) = is_in x (name_list ns)
 
 -- by the first specification that names it; each formal of a tree without faults has one (Report 5.4.5)
 abbrev pub formal_kind : ℕ → (by_value : Bool) → List tree.Specification → Kind
 formal_kind x by_value [] = kind.Integer
 formal_kind x by_value (specification ∷ rest) =
-    if is_in x (listed specification.names) then specified_kind specification.specifier by_value else formal_kind x by_value rest
+    if is_in x (name_list specification.names) then specified_kind specification.specifier by_value else formal_kind x by_value rest
 
 abbrev pub formals_from : tree.ValuePart → List tree.Specification → List tree.Name → List Formal
 formals_from listing specifications [] = []
@@ -151,7 +151,7 @@ formals_from listing specifications (name ∷ rest) =
 
 abbrev pub formals : tree.Formals → tree.ValuePart → List tree.Specification → List Formal
 formals tree.NoFormals listing specifications = []
-formals (tree.FormalList left ns right) listing specifications = formals_from listing specifications (listed ns)
+formals (tree.FormalList left ns right) listing specifications = formals_from listing specifications (name_list ns)
 
 -- the line of a procedure declaration's first symbol
 abbrev pub heading_line : Option tree.TypeWord → (procedure : ℕ) → ℕ
@@ -169,9 +169,9 @@ abbrev pub segments : Kind → List tree.NextSegment → Declarations → Declar
 segments kind [] rest = rest
 segments kind (next ∷ others) rest = segment kind next.segment (segments kind others rest)
 
-abbrev pub labelled : List tree.LabelPlace → Statement → Statement
-labelled [] s = s
-labelled (label ∷ labels) s = Labelled (name_of label.name) (labelled labels s)
+abbrev pub with_labels : List tree.LabelPlace → Statement → Statement
+with_labels [] s = s
+with_labels (label ∷ labels) s = Labelled (name_of label.name) (with_labels labels s)
 
 abbrev pub left_side : tree.LeftSide → Expr
 left_side (tree.OneName name) = Alone (name_of name) name.line
@@ -219,7 +219,7 @@ abbrev mutual
   statement (tree.OneLoop s) = loop s
 
   pub unconditional : tree.Unconditional → Statement
-  unconditional (tree.MkUnconditional labels s) = labelled labels (basic s)
+  unconditional (tree.MkUnconditional labels s) = with_labels labels (basic s)
 
   pub basic : tree.Basic → Statement
   basic (tree.OneGroup s) = group s
@@ -229,14 +229,14 @@ abbrev mutual
   basic tree.Dummy = Dummy
 
   pub conditional : tree.Conditional → Statement
-  conditional (tree.IfThen labels line test behind s) = labelled labels (If (expr test) (unconditional s))
+  conditional (tree.IfThen labels line test behind s) = with_labels labels (If (expr test) (unconditional s))
   conditional (tree.IfElse labels line test behind s else_line other) =
-      labelled labels (IfElse (expr test) (unconditional s) (statement other))
-  conditional (tree.IfLoop labels line test behind s) = labelled labels (If (expr test) (loop s))
+      with_labels labels (IfElse (expr test) (unconditional s) (statement other))
+  conditional (tree.IfLoop labels line test behind s) = with_labels labels (If (expr test) (loop s))
 
   pub loop : tree.Loop → Statement
   loop (tree.MkLoop labels line name becomes first others doing s) =
-      labelled labels (For line (name_of name) name.line (turns first ∷ more_turns others) (statement s))
+      with_labels labels (For line (name_of name) name.line (turns first ∷ more_turns others) (statement s))
 
 -- the line of a group's `_begin`
 abbrev pub begin_line : tree.Group → ℕ
@@ -244,4 +244,4 @@ begin_line (tree.MkBlock line d semicolon ds s ss end) = line
 begin_line (tree.MkCompound line s ss end) = line
 
 abbrev pub plain : tree.Program → Whole
-plain (tree.MkProgram labels s end) = record { line = begin_line s; statement = labelled labels (group s) }
+plain (tree.MkProgram labels s end) = record { line = begin_line s; statement = with_labels labels (group s) }

@@ -48,16 +48,16 @@ procedures [] = []
 procedures (x ∷ xs) = ProcedureName x ∷ procedures xs
 
 -- the identifiers of declarations, in source order
-abbrev pub declared : Declarations → List Declared
-declared NoDeclarations = []
-declared (Variables kind names ds) = quantities (identifiers_in names) ++ declared ds
-declared (Arrays kind line names bounds ds) = quantities (identifiers_in names) ++ declared ds
-declared (Switch line name elements ds) = quantities (identifier_in name) ++ declared ds
-declared (Procedure line kind own name formals body ds) = procedures (identifier_in name) ++ declared ds
+abbrev pub declared_names : Declarations → List Declared
+declared_names NoDeclarations = []
+declared_names (Variables kind names ds) = quantities (identifiers_in names) ++ declared_names ds
+declared_names (Arrays kind line names bounds ds) = quantities (identifiers_in names) ++ declared_names ds
+declared_names (Switch line name elements ds) = quantities (identifier_in name) ++ declared_names ds
+declared_names (Procedure line kind own name formals body ds) = procedures (identifier_in name) ++ declared_names ds
 
 -- those of a block: of its declarations, then its labels
 abbrev pub of_block : Declarations → Statements → List Declared
-of_block ds ss = declared ds ++ quantities (all_labels ss)
+of_block ds ss = declared_names ds ++ quantities (all_labels ss)
 
 abbrev pub identifier_of : Declared → ℕ
 identifier_of (Quantity x) = x

@@ -9,17 +9,17 @@ use Rattle.gier_word.specs.Standard.{integer_text, line_text, character_text, Re
 use Rattle.gier_tree.specs.declared.kind.Kind.{Kind}
 use Rattle.gier_tree.specs.declared.kind.Kind.TheVariants.{OutInteger, OutCr, OutChar, InInteger, InChar, Abs, Sign}
 use Rattle.gier_meaning.specs.Live.{Live}
-use Rattle.gier_meaning.specs.State.{State, printing}
+use Rattle.gier_meaning.specs.State.{State, with_printed}
 use Rattle.gier_meaning.specs.Outcome.{Outcome, Gives, Alarmed, stops, senseless}
 
 -- a number, or the alarm that there is none
-abbrev pub settled : {K : Type 0} → Result ℤ Spoil → (line : ℕ) → Live → State K → Outcome K ℤ
-settled (Ok value) line live s = Gives value s
-settled (Err spoil) line live s = stops (Alarmed (alarm_of spoil)) line live s
+abbrev pub value_or_alarm : {K : Type 0} → Result ℤ Spoil → (line : ℕ) → Live → State K → Outcome K ℤ
+value_or_alarm (Ok value) line live s = Gives value s
+value_or_alarm (Err spoil) line live s = stops (Alarmed (alarm_of spoil)) line live s
 
 -- these bytes are printed, or it alarms and prints nothing
 abbrev pub prints : {K : Type 0} → Result (List ℕ) Alarm → (line : ℕ) → Live → State K → Outcome K ℤ
-prints (Ok bytes) line live s = Gives (pos 0) (printing bytes s)
+prints (Ok bytes) line live s = Gives (pos 0) (with_printed bytes s)
 prints (Err alarm) line live s = stops (Alarmed alarm) line live s
 
 abbrev pub without : {K : Type 0} → ℕ → State K → State K
@@ -44,10 +44,10 @@ standard_alone _ line live s = senseless line live s
 abbrev pub standard_of : {K : Type 0} → Kind → ℤ → (line : ℕ) → Live → State K → Outcome K ℤ
 standard_of OutInteger value line live s = prints (Ok (integer_text value)) line live s
 standard_of OutChar value line live s = prints (character_text value) line live s
-standard_of Abs value line live s = settled (modulus_of value) line live s
+standard_of Abs value line live s = value_or_alarm (modulus_of value) line live s
 standard_of Sign value line live s = Gives (sign_of value) s
 standard_of _ value line live s = senseless line live s
 
 -- `outtext`
 abbrev pub prints_text : {K : Type 0} → List ℕ → State K → Outcome K ℤ
-prints_text bytes s = Gives (pos 0) (printing bytes s)
+prints_text bytes s = Gives (pos 0) (with_printed bytes s)

@@ -11,6 +11,6 @@ standard_bindings =
     Means 0 (AStandard OutInteger) ∷ Means 1 (AStandard OutText) ∷ Means 2 (AStandard OutCr) ∷ Means 3 (AStandard OutChar)
     ∷ Means 4 (AStandard InInteger) ∷ Means 5 (AStandard InChar) ∷ Means 6 (AStandard Abs) ∷ Means 7 (AStandard Sign) ∷ []
 
-abbrev pub beginning : {K : Type 0} → List ℕ → (permitted : ℕ) → State K
-beginning unread permitted =
+abbrev pub initial_state : {K : Type 0} → List ℕ → (permitted : ℕ) → State K
+initial_state unread permitted =
     record { fresh = 0; store = λ n. Nothing; unread = unread; printed = []; left = permitted; most = 0 }

@@ -24,16 +24,16 @@ pub record State (K : Type 0) : Type 0 where
   pub left : ℕ
   pub most : ℕ
 
-abbrev pub changed : {K : Type 0} → (ℕ → Entity K) → ℕ → Entity K → ℕ → Entity K
-changed store n entity m = if m == n then entity else store m
+abbrev pub with_value : {K : Type 0} → (ℕ → Entity K) → ℕ → Entity K → ℕ → Entity K
+with_value store n entity m = if m == n then entity else store m
 
 -- from now on the store says this of n
 abbrev pub with_entity : {K : Type 0} → ℕ → Entity K → State K → State K
-with_entity n entity s = record s { store = changed s.store n entity }
+with_entity n entity s = record s { store = with_value s.store n entity }
 
 -- so many more entities are given out
 abbrev pub given_out : {K : Type 0} → ℕ → State K → State K
 given_out n s = record s { fresh = s.fresh + n }
 
-abbrev pub printing : {K : Type 0} → List ℕ → State K → State K
-printing bytes s = record s { printed = s.printed ++ bytes }
+abbrev pub with_printed : {K : Type 0} → List ℕ → State K → State K
+with_printed bytes s = record s { printed = s.printed ++ bytes }

@@ -9,8 +9,8 @@ use Rattle.gier_meaning.specs.Accounts.{enter}
 use Rattle.gier_meaning.specs.Operators.{is_true}
 use Rattle.gier_meaning.specs.Room.{block_room}
 use Rattle.gier_meaning.specs.Maps.{Binding}
-use Rattle.gier_meaning.specs.Turns.{name_in_turn, in_turn, lefts_in_turn, elements_in_turn, declarations_in_turn, statements_in_turn}
-use Rattle.gier_meaning.specs.Doing.{Doing}
+use Rattle.gier_meaning.specs.TurnLabels.{name_in_turn, in_turn, lefts_in_turn, elements_in_turn, declarations_in_turn, statements_in_turn}
+use Rattle.gier_meaning.specs.Computation.{Computation}
 use Rattle.gier_meaning.specs.Destinations.{goes_to}
 use Rattle.gier_meaning.specs.Tasks.{Next}
 use Rattle.gier_meaning.specs.Names.{what_of}
@@ -40,12 +40,12 @@ abbrev mutual
   have label turn (MoreStatements s ss) = has label turn s || have label turn ss
 
 module _ (limit : ℕ) where
-  abbrev pub block : Next → Declarations → Statements → (line : ℕ) → Doing Finished
+  abbrev pub block : Next → Declarations → Statements → (line : ℕ) → Computation Finished
   block next ds ss line live s =
       enter limit InBlock (block_room (what_of s) ds ss) line live s (λ live1 s1. next.block ds ss live1 s1)
 
   abbrev mutual
-    pub run : Next → List Binding → Statement → Doing Finished
+    pub run : Next → List Binding → Statement → Computation Finished
     run next turn (Labelled name s) live st = run next turn s live st
     run next turn Dummy live st = Gives Done st
     run next turn (Compound ss) live st = run_all next turn ss live st
@@ -69,14 +69,14 @@ module _ (limit : ℕ) where
         (λ inner s1. run next inner s live s1)
         (elements_in_turn turn list) live st
 
-    pub run_all : Next → List Binding → Statements → Doing Finished
+    pub run_all : Next → List Binding → Statements → Computation Finished
     run_all next turn NoStatements live st = Gives Done st
     run_all next turn (MoreStatements s ss) live st =
         then_do (run next turn s live st) (λ done s1. run_all next turn ss live s1)
 
   -- from the label on; no inner scope is entered
   abbrev mutual
-    pub resume : Next → (label : ℕ) → List Binding → Statement → Doing Finished
+    pub resume : Next → (label : ℕ) → List Binding → Statement → Computation Finished
     resume next label turn (Labelled name s) live st =
         either (is_label label (name_in_turn turn name)) st
         (λ s1. run next turn s live s1)
@@ -94,7 +94,7 @@ module _ (limit : ℕ) where
         (λ s1. resume next label turn other live s1)
     resume next label turn (For line variable place list s) live st = Gives Done st
 
-    pub resume_all : Next → (label : ℕ) → List Binding → Statements → Doing Finished
+    pub resume_all : Next → (label : ℕ) → List Binding → Statements → Computation Finished
     resume_all next label turn NoStatements live st = Gives Done st
     resume_all next label turn (MoreStatements s ss) live st =
         either (has label turn s) st

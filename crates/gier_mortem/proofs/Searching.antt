@@ -5,11 +5,11 @@ use Rattle.std.proofs.lemmas.Bool.Decides.{eqb_tells}
 use Rattle.std.proofs.lemmas.List.{length-append, length-map}
 use Rattle.gier_symbol.specs.declared.symbol.Symbol.{Symbol}
 use Rattle.gier_text.specs.declared.text.Way.TheVariants.{Forward}
-use Rattle.gier_text.specs.Coded.{symbols_of, told, text_on}
+use Rattle.gier_text.specs.SymbolsOnTracks.{symbols_of, all_symbols, text_on}
 use Rattle.gier_text.specs.Own.{found_on}
 use Rattle.gier_text.specs.View.{LeftFrom, IsLeftIn, OrdersLeft}
 use Rattle.gier_mortem.specs.declared.lines.Asked.{Asked}
-use Rattle.gier_mortem.specs.Asking.{is_word, word_lines, addresses, greatest, told_line, AreFound, AreFoundBelow, Searched}
+use Rattle.gier_mortem.specs.WordLines.{is_word, word_lines, addresses, greatest, told_line, AreFound, AreFoundBelow, Searched}
 
 -- lines of words
 
@@ -53,15 +53,15 @@ line_at read s rest address word is =
 
 -- a line that is told
 
-pub as_many : (asked told : List Asked) → addresses told ≡ addresses asked → length told ≡ length asked
-as_many asked told same =
-    sym (length-map told (λ (a : Asked). a.address)) ∙ ap length same ∙ length-map asked (λ (a : Asked). a.address)
+pub as_many : (asked all_symbols : List Asked) → addresses all_symbols ≡ addresses asked → length all_symbols ≡ length asked
+as_many asked all_symbols same =
+    sym (length-map all_symbols (λ (a : Asked). a.address)) ∙ ap length same ∙ length-map asked (λ (a : Asked). a.address)
 
-pub told-addresses : (address line : ℕ) (asked : List Asked) → addresses (map (told_line address line) asked) ≡ addresses asked
-told-addresses address line [] = refl
-told-addresses address line (a ∷ asked) = elim (eqb_tells a.address address) [
-  | inl same ↦ rw same.0 (ap (λ ns. a.address ∷ ns) (told-addresses address line asked))
-  | inr other ↦ rw other.0 (ap (λ ns. a.address ∷ ns) (told-addresses address line asked))
+pub all_symbols-addresses : (address line : ℕ) (asked : List Asked) → addresses (map (told_line address line) asked) ≡ addresses asked
+all_symbols-addresses address line [] = refl
+all_symbols-addresses address line (a ∷ asked) = elim (eqb_tells a.address address) [
+  | inl same ↦ rw same.0 (ap (λ ns. a.address ∷ ns) (all_symbols-addresses address line asked))
+  | inr other ↦ rw other.0 (ap (λ ns. a.address ∷ ns) (all_symbols-addresses address line asked))
 ]
 
 abbrev IsFoundBelow : List ℕ → ℕ → Asked → Type 0
@@ -89,22 +89,22 @@ pub begins : (before : Option (List Symbol)) (asked : List Asked) (last : ℕ) �
 begins before asked last = record {
   same = refl;
   within = omega arith;
-  passed = λ list told. ([], list, refl, told, refl, λ k d lt below. absurd (omega arith));
+  passed = λ list all_symbols. ([], list, refl, all_symbols, refl, λ k d lt below. absurd (omega arith));
 }
 
 pub passes_mark : (before : Option (List Symbol)) (wanted : List ℕ) (left new : Option (List Symbol)) (asked : List Asked) (address last : ℕ) (s : Symbol) → Searched before wanted left asked address last → LeftFrom left (s ∷ []) new → is_word s.tag ≡ false → Searched before wanted new asked address last
 passes_mark before wanted left new asked address last s searched from mark = record {
   same = searched.same;
   within = searched.within;
-  passed = λ list told.
-      let was = searched.passed list told in
+  passed = λ list all_symbols.
+      let was = searched.passed list all_symbols in
       let next = subst (λ (l : Option (List Symbol)). LeftFrom l (s ∷ []) new) was.3 from in
       let whole : list ≡ (was.0 ++ s ∷ []) ++ next.0 = was.2 ∙ ap (λ (ss : List Symbol). was.0 ++ ss) next.1 ∙ sym (append_assoc was.0 (s ∷ []) next.0) in
       (was.0 ++ s ∷ [], next.0, whole, next.2, ap length (lines_mark was.0 s mark) ∙ was.4, was.5);
 }
 
-after_word : (before left new : Option (List Symbol)) (wanted : List ℕ) (asked told : List Asked) (address last : ℕ) (s : Symbol) → Searched before wanted left asked address last → LeftFrom left (s ∷ []) new → is_word s.tag ≡ true → told ≡ map (told_line address s.line) asked → (list : List Symbol) → before ≡ Some list → (read rest : List Symbol) × (list ≡ read ++ rest) × (new ≡ Some rest) × (length (word_lines read) ≡ address + 1) × AreFoundBelow (word_lines list) (address + 1) told
-after_word before left new wanted asked told address last s searched from word is list is_told =
+after_word : (before left new : Option (List Symbol)) (wanted : List ℕ) (asked all_symbols : List Asked) (address last : ℕ) (s : Symbol) → Searched before wanted left asked address last → LeftFrom left (s ∷ []) new → is_word s.tag ≡ true → all_symbols ≡ map (told_line address s.line) asked → (list : List Symbol) → before ≡ Some list → (read rest : List Symbol) × (list ≡ read ++ rest) × (new ≡ Some rest) × (length (word_lines read) ≡ address + 1) × AreFoundBelow (word_lines list) (address + 1) all_symbols
+after_word before left new wanted asked all_symbols address last s searched from word is list is_told =
     let was = searched.passed list is_told in
     let next = subst (λ (l : Option (List Symbol)). LeftFrom l (s ∷ []) new) was.3 from in
     let split : list ≡ was.0 ++ s ∷ next.0 = was.2 ∙ ap (λ (ss : List Symbol). was.0 ++ ss) next.1 in
@@ -112,11 +112,11 @@ after_word before left new wanted asked told address last s searched from word i
     let line : slice_get (word_lines list) address ≡ Some s.line = ap (λ (ss : List Symbol). slice_get (word_lines ss) address) split ∙ line_at was.0 s next.0 address word was.4 in
     (was.0 ++ s ∷ [], next.0, whole, next.2, lines_word was.0 s word ∙ ap (λ (n : ℕ). n + 1) was.4, rw is (told_all (word_lines list) address s.line asked line was.5))
 
-pub passes_word : (before left new : Option (List Symbol)) (wanted : List ℕ) (asked told : List Asked) (address last : ℕ) (s : Symbol) → Searched before wanted left asked address last → LeftFrom left (s ∷ []) new → is_word s.tag ≡ true → told ≡ map (told_line address s.line) asked → address ≢ last → Searched before wanted new told (address + 1) last
-passes_word before left new wanted asked told address last s searched from word is other = record {
-  same = rw is (told-addresses address s.line asked ∙ searched.same);
+pub passes_word : (before left new : Option (List Symbol)) (wanted : List ℕ) (asked all_symbols : List Asked) (address last : ℕ) (s : Symbol) → Searched before wanted left asked address last → LeftFrom left (s ∷ []) new → is_word s.tag ≡ true → all_symbols ≡ map (told_line address s.line) asked → address ≢ last → Searched before wanted new all_symbols (address + 1) last
+passes_word before left new wanted asked all_symbols address last s searched from word is other = record {
+  same = rw is (all_symbols-addresses address s.line asked ∙ searched.same);
   within = grind (arith, searched.within, other);
-  passed = after_word before left new wanted asked told address last s searched from word is;
+  passed = after_word before left new wanted asked all_symbols address last s searched from word is;
 }
 
 -- all that were asked for lie below one more than the greatest
@@ -125,12 +125,12 @@ below_greatest : (asked : List Asked) (most : ℕ) → greatest (addresses asked
 below_greatest [] most le = λ k d lt. absurd (omega arith)
 below_greatest (a ∷ asked) most le = all_cons (λ (b : Asked). b.address < most + 1) a asked (omega (arith, le)) (below_greatest asked most (omega (arith, le)))
 
-pub finds : (before left new : Option (List Symbol)) (wanted : List ℕ) (asked told : List Asked) (address last : ℕ) (s : Symbol) → Searched before wanted left asked address last → LeftFrom left (s ∷ []) new → is_word s.tag ≡ true → told ≡ map (told_line address s.line) asked → address ≡ last → last ≡ greatest wanted → (list : List Symbol) → before ≡ Some list → AreFound (word_lines list) told
-finds before left new wanted asked told address last s searched from word is same last_is list is_told =
-    let found = (after_word before left new wanted asked told address last s searched from word is list is_told).5 in
-    let addresses_are : addresses told ≡ wanted = rw is (told-addresses address s.line asked ∙ searched.same) in
-    let most : greatest (addresses told) ≤ address = omega (arith, ap greatest addresses_are, same, last_is) in
-    λ k d lt. found k d lt (below_greatest told address most k d lt)
+pub finds : (before left new : Option (List Symbol)) (wanted : List ℕ) (asked all_symbols : List Asked) (address last : ℕ) (s : Symbol) → Searched before wanted left asked address last → LeftFrom left (s ∷ []) new → is_word s.tag ≡ true → all_symbols ≡ map (told_line address s.line) asked → address ≡ last → last ≡ greatest wanted → (list : List Symbol) → before ≡ Some list → AreFound (word_lines list) all_symbols
+finds before left new wanted asked all_symbols address last s searched from word is same last_is list is_told =
+    let found = (after_word before left new wanted asked all_symbols address last s searched from word is list is_told).5 in
+    let addresses_are : addresses all_symbols ≡ wanted = rw is (all_symbols-addresses address s.line asked ∙ searched.same) in
+    let most : greatest (addresses all_symbols) ≤ address = omega (arith, ap greatest addresses_are, same, last_is) in
+    λ k d lt. found k d lt (below_greatest all_symbols address most k d lt)
 
 pub too_short : (before left : Option (List Symbol)) (wanted : List ℕ) (asked : List Asked) (address last : ℕ) → Searched before wanted left asked address last → IsLeftIn left [] → last ≡ greatest wanted → (list : List Symbol) → before ≡ Some list → length (word_lines list) ≤ greatest wanted
 too_short before left wanted asked address last searched ends last_is list is_told =
@@ -141,7 +141,7 @@ too_short before left wanted asked address last searched ends last_is list is_to
 
 -- a text of which nothing was read
 
-pub left_whole : (tracks : Option (List (List ℕ))) (first loaded : ℕ) (buffer : List ℕ) (count from symbols : ℕ) (left : Option (List Symbol)) (list : List Symbol) → loaded ≡ 0 → first ≡ from → count ≡ symbols → OrdersLeft (told (symbols_of tracks first loaded buffer count)) Forward left → text_on tracks from symbols ≡ Some list → left ≡ Some list
+pub left_whole : (tracks : Option (List (List ℕ))) (first loaded : ℕ) (buffer : List ℕ) (count from symbols : ℕ) (left : Option (List Symbol)) (list : List Symbol) → loaded ≡ 0 → first ≡ from → count ≡ symbols → OrdersLeft (all_symbols (symbols_of tracks first loaded buffer count)) Forward left → text_on tracks from symbols ≡ Some list → left ≡ Some list
 left_whole tracks first loaded buffer count from symbols left list none here all orders is =
-    let held : told (symbols_of tracks first loaded buffer count) ≡ Some list = found_on tracks first loaded buffer count none ∙ rw (here, all) is in
+    let held : all_symbols (symbols_of tracks first loaded buffer count) ≡ Some list = found_on tracks first loaded buffer count none ∙ rw (here, all) is in
     subst (λ (h : Option (List Symbol)). OrdersLeft h Forward left) held orders

@@ -1,7 +1,7 @@
 // The words whose lines are asked for, and the lines found.
 ghost use Rattle.std.specs.Prelude.{◌≡◌, ◌<◌, ◌++◌, ◌∷◌, [], length, map, max, slice_get, Some};
 ghost use Rattle.gier_mortem.specs.declared.lines.Asked.{Asked};
-ghost use Rattle.gier_mortem.specs.Asking.{addresses, greatest, told_line};
+ghost use Rattle.gier_mortem.specs.WordLines.{addresses, greatest, told_line};
 
 use arrayvec::ArrayVec;
 

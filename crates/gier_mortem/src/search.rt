@@ -1,9 +1,9 @@
 // Looks for the words that are asked for in the text of orders, from its first symbol to the last word that is asked for.
 ghost use Rattle.std.specs.Prelude.{◌≡◌, ◌<◌, ◌≤◌, ◌+◌, IsErrOf, List, length, Some, true, false};
 ghost use Rattle.gier_word.specs.Cause.{HasRisen};
-ghost use Rattle.gier_text.specs.Coded.{tracks_for, text_on};
+ghost use Rattle.gier_text.specs.SymbolsOnTracks.{tracks_for, text_on};
 ghost use Rattle.gier_text.specs.View.{KeepsTracks};
-ghost use Rattle.gier_mortem.specs.Asking.{is_word, addresses, Finds, SpoiltIfShort};
+ghost use Rattle.gier_mortem.specs.WordLines.{is_word, addresses, Finds, SpoiltIfShort};
 ghost use Rattle.gier_symbol.specs.declared.symbol.Symbol.{Symbol};
 ghost use Rattle.gier_mortem.specs.Stops.{IsSpoilt};
 ghost use Rattle.gier_mortem.specs.declared.stop.LineStop.TheVariants.{Drum as DrumFailed};

@@ -1,7 +1,7 @@
 // Lines found in a short text that is written down by hand.
 ghost use Rattle.std.specs.Prelude.{◌≡◌, ◌≤◌, ◌+◌, IfOk, false};
 ghost use Rattle.gier_symbol.specs.Symbols.{IsSymbol};
-ghost use Rattle.gier_text.specs.Coded.{tracks_for};
+ghost use Rattle.gier_text.specs.SymbolsOnTracks.{tracks_for};
 
 use crate::{LineStop, Lines};
 use gier_drum::{Drum, FailingDrum, ForgetfulDrum, MemDrum};

@@ -6,7 +6,7 @@ use Rattle.gier_frames.specs.declared.halt.Halt.{Halt}
 use Rattle.gier_frames.specs.declared.halt.Halt.TheVariants.{Alarm, Odd}
 use Rattle.gier_frames.specs.State.{State}
 use Rattle.gier_frames.specs.Refusals.{call_refusal, place_refusal, back_refusal}
-use Rattle.gier_frames.specs.Effects.{called}
+use Rattle.gier_frames.specs.Effects.{after_call}
 use Rattle.gier_names.specs.declared.wanted.Wanted.{Wanted}
 use Rattle.gier_names.specs.declared.wanted.Wanted.TheVariants.{Value, Address, Label}
 
@@ -45,7 +45,7 @@ entered_unless None old new = new
 entered_unless (Some halt) old new = old
 
 abbrev pub begun : State → Order → ℕ → Wanted → ℕ → State
-begun s thunk outer wanted back = entered_unless (entry_refusal s thunk outer) s (called s 0 thunk.address outer back (number_of wanted) 0 0)
+begun s thunk outer wanted back = entered_unless (entry_refusal s thunk outer) s (after_call s 0 thunk.address outer back (number_of wanted) 0 0)
 
 -- what the current evaluation is wanted for
 abbrev pub wanted_now : State → Option Wanted

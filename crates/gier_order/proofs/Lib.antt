@@ -1,4 +1,4 @@
 pub mod Recency
-pub mod Standing
+pub mod CountInvariant
 pub mod Table
 pub mod Flat

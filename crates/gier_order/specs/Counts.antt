@@ -10,14 +10,14 @@ pub record Counts : Type 0 where
   pub far : ℕ
 
 -- how many references were taken
-abbrev pub taken : Counts → ℕ
-taken counts = counts.far + sum counts.hits
+abbrev pub references_taken : Counts → ℕ
+references_taken counts = counts.far + sum counts.hits
 
 -- how many of them missed with so many places
-abbrev pub missed : Counts → ℕ → ℕ
-missed counts places = counts.far + sum (drop places counts.hits)
+abbrev pub misses_at : Counts → ℕ → ℕ
+misses_at counts places = counts.far + sum (drop places counts.hits)
 
 pub record StandsFor (counts : Counts) (refs : List ℕ) : Type 0 where
-  pub all : taken counts ≡ length refs
+  pub all : references_taken counts ≡ length refs
   pub latest : counts.recent ≡ most_recent 64 refs
-  pub misses_of : (places : ℕ) → places ≤ 64 → missed counts places ≡ length (misses refs places)
+  pub misses_of : (places : ℕ) → places ≤ 64 → misses_at counts places ≡ length (misses refs places)

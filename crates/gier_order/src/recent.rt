@@ -1,7 +1,7 @@
 // How many references to tracks miss, for every number of places at once: a list of the tracks that were referred to
 // last, and a count for each place of it. It reads no track and holds none.
 ghost use Rattle.std.specs.Prelude.{◌≡◌, ◌+◌, ◌<◌, ◌≤◌, ◌^◌, ◌∷◌, ◌++◌, ◌==◌, ℕ, List, [], length, take, remove, position, sum, drop};
-ghost use Rattle.gier_order.specs.Counts.{taken, StandsFor};
+ghost use Rattle.gier_order.specs.Counts.{references_taken, StandsFor};
 ghost use Rattle.gier_order.specs.Misses.{misses};
 
 use arrayvec::ArrayVec;
@@ -35,7 +35,7 @@ impl Model for Recent {
 impl Recent {
     /// Stands for no references.
     pub fn new() -> Recent
-        ensures none { taken result ≡ 0 }
+        ensures none { references_taken result ≡ 0 }
         ensures stands { StandsFor result [] }
     {
         Recent {
@@ -48,8 +48,8 @@ impl Recent {
     /// Takes one reference to a track. Fewer than 2^120 were taken before.
     #[inline]
     pub fn refer(&mut self, track: u32)
-        requires { taken self.old < 2 ^ 120 }
-        ensures one_more { taken self.new ≡ taken self.old + 1 }
+        requires { references_taken self.old < 2 ^ 120 }
+        ensures one_more { references_taken self.new ≡ references_taken self.old + 1 }
         ensures stands { (refs : List ℕ) → StandsFor self.old refs → StandsFor self.new (refs ++ track ∷ []) }
     {
         match place_of(self.tracks.as_slice(), track) {

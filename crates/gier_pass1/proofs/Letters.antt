@@ -11,7 +11,7 @@ use Rattle.gier_symbol.specs.Tags.{name_of, number_of}
 use Rattle.gier_symbol.specs.Words.{word_symbols, tag_named, WordRead, word_ended, is_quote, is_next_letter}
 use Rattle.gier_strop.specs.declared.reader.Fed.TheVariants.{More}
 use Rattle.gier_strop.specs.Reading.{answer_of, answer_to, answer_with, answer_before}
-use Rattle.gier_pass1.specs.Moves.{is_word_number, IsKnown}
+use Rattle.gier_pass1.specs.StepCounts.{is_word_number, IsKnown}
 
 abbrev KnownIn : Option ℕ → Type 0
 KnownIn tag = IfSome tag (λ number. IsTrue (is_word_number number))

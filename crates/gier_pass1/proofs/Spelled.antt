@@ -2,9 +2,9 @@
 use Rattle.std.proofs.Common.{◌≡◌, ◌≢◌, ◌-◌, ℕ, Bool, true, false, if◌then◌else◌, eqb, nat_le, refl}
 use Rattle.gier_symbol.specs.declared.word.Spelling.{Spelling}
 use Rattle.gier_pass1.specs.declared.bytes.Kind.{Kind}
-use Rattle.gier_pass1.specs.declared.bytes.Kind.TheVariants.{Layout, Letter, Digit, WordStart, StringStart, Opener, Sign, Other}
+use Rattle.gier_pass1.specs.declared.bytes.Kind.TheVariants.{Layout, Letter, Digit, WordStart, StringStart, DoubleSignPrefix, Sign, Other}
 use Rattle.gier_pass1.specs.declared.state.Mode.{Mode}
-use Rattle.gier_pass1.specs.declared.state.Mode.TheVariants.{Start, Between, AfterOpener, InWord, InString, InComment, InSkipped, InSkippedWord}
+use Rattle.gier_pass1.specs.declared.state.Mode.TheVariants.{Start, Between, AfterPrefix, InWord, InString, InComment, InSkipped, InSkippedWord}
 use Rattle.gier_pass1.specs.declared.state.State.{State}
 use Rattle.gier_pass1.specs.declared.state.Step.{Step}
 use Rattle.gier_pass1.specs.Bytes.{kind_of, starts_word}
@@ -24,7 +24,7 @@ begun Letter s byte = refl
 begun Digit s byte = refl
 begun WordStart s byte = refl
 begun StringStart s byte = refl
-begun (Opener opener) s byte = refl
+begun (DoubleSignPrefix opener) s byte = refl
 begun (Sign tag) s byte = refl
 begun Other s byte = refl
 
@@ -34,7 +34,7 @@ any s byte = begun (kind_of s.spelling byte) s byte
 taken_spelling : (mode : Mode) (s : State) (byte : ℕ) → mode ≢ Start → HasSpelling s.spelling (taken_in mode s byte)
 taken_spelling Start s byte other = absurd (other refl)
 taken_spelling Between s byte other = any s byte
-taken_spelling (AfterOpener opener) s byte other = any s byte
+taken_spelling (AfterPrefix opener) s byte other = any s byte
 taken_spelling InWord s byte other = any s byte
 taken_spelling (InString depth) s byte other = on_if (HasSpelling s.spelling) (eqb byte 123) _ _ refl
     (on_if (HasSpelling s.spelling) (eqb byte 125) _ _ (on_if (HasSpelling s.spelling) (nat_le depth 1) _ (string_byte s (depth - 1) byte)

@@ -3,7 +3,7 @@ use Rattle.std.proofs.Common.{◌≡◌, ◌+◌, ◌++◌, ◌∙◌, ℕ, suc,
 use Rattle.std.proofs.lemmas.Bool.Decides.{nat_tests}
 use Rattle.gier_symbol.specs.declared.word.Spelling.{Spelling}
 use Rattle.gier_symbol.specs.declared.word.Spelling.TheVariants.{Plain, Quoted}
-use Rattle.gier_symbol.specs.Listing.{WrongWord, Listing, joined}
+use Rattle.gier_symbol.specs.Listing.{WrongWord, Listing, listings_joined}
 use Rattle.gier_symbol.specs.Reading.{read, takes_word, takes_comment}
 use Rattle.gier_symbol.specs.Spans.{comment_length, skipped_length, ends_skipping, also_ends, skipped_word as skipped_as}
 use Rattle.gier_symbol.specs.Words.{WordRead, word_of, word_byte}
@@ -15,7 +15,7 @@ use Rattle.gier_pass1.specs.declared.state.Step.{Step}
 use Rattle.gier_pass1.specs.Puts.{letters_in}
 use Rattle.gier_pass1.specs.Scan.{word_found_in, word_wrong_in, plain_word, comment_word, skipped_word}
 use Rattle.gier_pass1.proofs.InLine.{InLine, read_over, read_all_of, skipped_over, dropped, word_line}
-use Rattle.gier_pass1.proofs.ToCome.{to_come, to_come_in, faults_found, Begins, begins_joined, begins_same, begins_as}
+use Rattle.gier_pass1.proofs.RestOfProgram.{to_come, to_come_in, faults_found, Begins, begins_joined, begins_same, begins_as}
 
 -- the step at the end of a word, by its number
 abbrev pub by_number : Mode → Option ℕ → State → Bool → Step
@@ -26,7 +26,7 @@ by_number mode (Some number) s taken = word_found_in mode s number taken
 abbrev pub by_word : WordRead → Spelling → Bool → List ℕ → ℕ → Listing
 by_word found spelling fresh bytes line =
     let t = takes_word found.tag found.taken spelling fresh bytes line in
-    joined t.gives (read spelling bytes t.more t.fresh line)
+    listings_joined t.gives (read spelling bytes t.more t.fresh line)
 
 -- how many bytes are skipped where they begin with such a word
 abbrev pub skipped_by : WordRead → Spelling → List ℕ → ℕ
@@ -39,16 +39,16 @@ word_front Quoted bytes fresh line = refl
 
 -- a wrong word
 wrong_by : (s : State) (word rest : List ℕ) → InLine word → s.began.line ≡ s.here.line
-    → Begins (joined (record { symbols = []; faults = record { kind = WrongWord; line = s.here.line } ∷ [] })
+    → Begins (listings_joined (record { symbols = []; faults = record { kind = WrongWord; line = s.here.line } ∷ [] })
     (read s.spelling (word ++ rest) (length word) false s.here.line)) [] (record { kind = WordFault; line = s.began.line } ∷ [])
     (read s.spelling rest 0 false s.here.line)
 wrong_by s word rest line began = rw began (begins_joined _ _
     (record { symbols = []; faults = record { kind = WrongWord; line = s.here.line } ∷ [] })
-    (ap (λ (l : Listing). joined (record { symbols = []; faults = record { kind = WrongWord; line = s.here.line } ∷ [] }) l)
+    (ap (λ (l : Listing). listings_joined (record { symbols = []; faults = record { kind = WrongWord; line = s.here.line } ∷ [] }) l)
     (read_all_of s.spelling word rest false s.here.line line)))
 
 comment_by : (fresh : Bool) (s : State) (word rest : List ℕ) (taken : Bool) → InLine word → s.began.line ≡ s.here.line
-    → Begins (joined (takes_comment fresh (length word) (word ++ rest) s.here.line).gives
+    → Begins (listings_joined (takes_comment fresh (length word) (word ++ rest) s.here.line).gives
     (read s.spelling (word ++ rest) (takes_comment fresh (length word) (word ++ rest) s.here.line).more
     (takes_comment fresh (length word) (word ++ rest) s.here.line).fresh s.here.line))
     (letters_in (comment_word (record s { may_comment = fresh }) taken).found)
@@ -68,7 +68,7 @@ end_by : (s : State) (word rest : List ℕ) (taken : Bool) → InLine word → s
     (to_come (plain_word s 37 taken).state [] rest)
 end_by s word rest taken line began =
     rw began (begins_joined _ _ (record { symbols = record { tag = 37; value = 0; line = s.here.line } ∷ []; faults = [] })
-    (ap (λ (l : Listing). joined (record { symbols = record { tag = 37; value = 0; line = s.here.line } ∷ []; faults = [] }) l)
+    (ap (λ (l : Listing). listings_joined (record { symbols = record { tag = 37; value = 0; line = s.here.line } ∷ []; faults = [] }) l)
     (ap (λ (r : List ℕ). read s.spelling (word ++ rest) (length word + skipped_length s.spelling r 0) false s.here.line)
     (dropped word rest) ∙ read_over s.spelling word rest (skipped_length s.spelling rest 0) false s.here.line line)))
 
@@ -81,7 +81,7 @@ known_by true end s word rest number taken c e line began = rw c (comment_by s.m
 known_by false true s word rest number taken c e line began = rw (same_number number 37 e) (end_by s word rest taken line began)
 known_by false false s word rest number taken c e line began =
     rw (c, e, began) (begins_joined _ _ (record { symbols = record { tag = number; value = 0; line = s.here.line } ∷ []; faults = [] })
-    (ap (λ (l : Listing). joined (record { symbols = record { tag = number; value = 0; line = s.here.line } ∷ []; faults = [] }) l)
+    (ap (λ (l : Listing). listings_joined (record { symbols = record { tag = number; value = 0; line = s.here.line } ∷ []; faults = [] }) l)
     (read_all_of s.spelling word rest (eqb number 36) s.here.line line)))
 
 plain_ends : (tag : Option ℕ) (s : State) (word rest : List ℕ) (taken : Bool) → InLine word → s.began.line ≡ s.here.line

@@ -16,7 +16,7 @@ use Rattle.gier_pass1.specs.declared.state.Step.{Step}
 use Rattle.gier_pass1.specs.Puts.{letters_in}
 use Rattle.gier_pass1.specs.Scan.{word_step}
 use Rattle.gier_pass1.proofs.InLine.{InLine, letters_in_line, in_line_push}
-use Rattle.gier_pass1.proofs.ToCome.{to_come, to_come_in, faults_found, Begins, begins_same}
+use Rattle.gier_pass1.proofs.RestOfProgram.{to_come, to_come_in, faults_found, Begins, begins_same}
 use Rattle.gier_pass1.proofs.WordEnds.{by_number, word_ends, skipped_word_ends}
 
 -- the bytes behind what ended: all, or all but the first where that belongs to it

@@ -7,9 +7,9 @@ use Rattle.gier_symbol.specs.Tags.{number_of}
 use Rattle.gier_symbol.specs.Texts.{stands_in}
 use Rattle.gier_symbol.specs.Words.{word_byte}
 use Rattle.gier_pass1.specs.declared.bytes.Kind.{Kind}
-use Rattle.gier_pass1.specs.declared.bytes.Kind.TheVariants.{Layout, Letter, Digit, WordStart, StringStart, Opener as OpenerKind, Sign, Other}
-use Rattle.gier_pass1.specs.declared.bytes.Opener.{Opener}
-use Rattle.gier_pass1.specs.declared.bytes.Opener.TheVariants.{Less as LessOpener, Greater as GreaterOpener, Colon as ColonOpener}
+use Rattle.gier_pass1.specs.declared.bytes.Kind.TheVariants.{Layout, Letter, Digit, WordStart, StringStart, DoubleSignPrefix as OpenerKind, Sign, Other}
+use Rattle.gier_pass1.specs.declared.bytes.DoubleSignPrefix.{DoubleSignPrefix}
+use Rattle.gier_pass1.specs.declared.bytes.DoubleSignPrefix.TheVariants.{Less as LessOpener, Greater as GreaterOpener, Colon as ColonOpener}
 
 -- tabulator, new line, carriage return and space
 abbrev pub is_layout : ℕ → Bool
@@ -25,7 +25,7 @@ abbrev pub starts_word : Spelling → ℕ → Bool
 starts_word spelling byte = byte == word_byte spelling
 
 -- `<`, `>` and `:` may be the first byte of a double sign
-abbrev pub opener_of : ℕ → Option Opener
+abbrev pub opener_of : ℕ → Option DoubleSignPrefix
 opener_of byte =
     if byte == 60 then Some LessOpener
     else (if byte == 62 then Some GreaterOpener
@@ -50,7 +50,7 @@ abbrev pub plain_kind : Option Tag → Kind
 plain_kind None = Other
 plain_kind (Some tag) = Sign tag
 
-abbrev pub opener_kind : Option Opener → Kind → Kind
+abbrev pub opener_kind : Option DoubleSignPrefix → Kind → Kind
 opener_kind None kind = kind
 opener_kind (Some opener) kind = OpenerKind opener
 
@@ -67,13 +67,13 @@ kind_of spelling byte =
     else (if byte == 123 then StringStart else sign_kind byte))))
 
 -- the sign alone
-abbrev pub alone : Opener → Tag
-alone LessOpener = Less
-alone GreaterOpener = Greater
-alone ColonOpener = Colon
+abbrev pub single_sign : DoubleSignPrefix → Tag
+single_sign LessOpener = Less
+single_sign GreaterOpener = Greater
+single_sign ColonOpener = Colon
 
 -- the double sign that a byte makes of the sign: `<=`, `<>`, `>=` and `:=`
-abbrev pub double_of : Opener → ℕ → Option Tag
+abbrev pub double_of : DoubleSignPrefix → ℕ → Option Tag
 double_of LessOpener byte = if byte == 61 then Some NotGreater else (if byte == 62 then Some NotEqual else None)
 double_of GreaterOpener byte = if byte == 61 then Some NotLess else None
 double_of ColonOpener byte = if byte == 61 then Some Becomes else None

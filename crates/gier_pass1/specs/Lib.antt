@@ -1,7 +1,7 @@
 pub mod Bytes
 pub mod Scan
-pub mod Moves
+pub mod StepCounts
 pub mod Program
 pub mod Puts
 pub mod Scanning
-pub mod Told
+pub mod TapeListing

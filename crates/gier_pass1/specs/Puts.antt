@@ -3,12 +3,12 @@ use Rattle.std.specs.Prelude.{◌≡◌, ◌≤◌, ◌+◌, ℕ, List, [], ◌�
 use Rattle.gier_drum.specs.declared.drum.Entry.{Entry}
 use Rattle.gier_symbol.specs.declared.symbol.Symbol.{Symbol}
 use Rattle.gier_symbol.specs.Texts.{stands_in}
-use Rattle.gier_text.specs.Kept.{Kept}
+use Rattle.gier_text.specs.TablesModel.{TablesModel}
 use Rattle.gier_text.specs.Log.{Logged}
 use Rattle.gier_text.specs.Passes.{SpoiltIf}
 use Rattle.gier_text.specs.View.{View, WritesAll, IsPlacedAs, KeepsTracks, KeepsOthers}
-use Rattle.gier_pass1.specs.declared.state.Found.{Found}
-use Rattle.gier_pass1.specs.declared.state.Found.TheVariants.{Nothing, Written, Wrong}
+use Rattle.gier_pass1.specs.declared.state.Token.{Token}
+use Rattle.gier_pass1.specs.declared.state.Token.TheVariants.{Nothing, Written, LexError}
 use Rattle.gier_pass1.specs.declared.read.ReadStop.{ReadStop}
 use Rattle.gier_pass1.specs.declared.read.ReadStop.TheVariants.{TooLong, Read, Pass}
 
@@ -21,10 +21,10 @@ pub record Frame {T S : Type 0} (view : T → S → View) (first end : T → ℕ
   pub later : faults store ≤ faults new_store
 
 -- the symbol that was found, where there is one
-abbrev pub letters_in : Found → List Symbol
+abbrev pub letters_in : Token → List Symbol
 letters_in Nothing = []
 letters_in (Written s) = s ∷ []
-letters_in (Wrong fault) = []
+letters_in (LexError fault) = []
 
 -- these symbols, which are of text 1, are appended, and the journal grows by what their writes add
 pub record Puts (symbols : List Symbol) (old new : View) (before after : Option (List Entry)) : Type 0 where
@@ -33,7 +33,7 @@ pub record Puts (symbols : List Symbol) (old new : View) (before after : Option 
   pub logged : Logged old new before after
 
 -- so many faults are added, and nothing else of the tables changes
-pub record AddsFaults (old new : Kept) (most : ℕ) : Type 0 where
+pub record AddsFaults (old new : TablesModel) (most : ℕ) : Type 0 where
   pub same_limit : new.limit ≡ old.limit
   pub same_used : new.used ≡ old.used
   pub same_lists : new.lists ≡ old.lists

@@ -9,17 +9,17 @@ use Rattle.gier_strop.specs.declared.reader.Fed.{Fed}
 use Rattle.gier_strop.specs.declared.reader.Fed.TheVariants.{More, Word, Fault as FaultFed, WordBefore, FaultBefore}
 use Rattle.gier_text.specs.declared.fault.FaultKind.{FaultKind}
 use Rattle.gier_text.specs.declared.fault.FaultKind.TheVariants.{Character, Word as WordFault, Unclosed}
-use Rattle.gier_pass1.specs.declared.bytes.Opener.{Opener}
+use Rattle.gier_pass1.specs.declared.bytes.DoubleSignPrefix.{DoubleSignPrefix}
 use Rattle.gier_pass1.specs.declared.bytes.Kind.{Kind}
-use Rattle.gier_pass1.specs.declared.bytes.Kind.TheVariants.{Layout, Letter as LetterKind, Digit as DigitKind, WordStart, StringStart, Opener as OpenerKind, Sign, Other}
+use Rattle.gier_pass1.specs.declared.bytes.Kind.TheVariants.{Layout, Letter as LetterKind, Digit as DigitKind, WordStart, StringStart, DoubleSignPrefix as OpenerKind, Sign, Other}
 use Rattle.gier_pass1.specs.declared.state.Mode.{Mode}
-use Rattle.gier_pass1.specs.declared.state.Mode.TheVariants.{Start, Between, AfterOpener, InWord, InString, InComment, InSkipped, InSkippedWord}
+use Rattle.gier_pass1.specs.declared.state.Mode.TheVariants.{Start, Between, AfterPrefix, InWord, InString, InComment, InSkipped, InSkippedWord}
 use Rattle.gier_pass1.specs.declared.state.Place.{Place}
 use Rattle.gier_pass1.specs.declared.state.State.{State}
-use Rattle.gier_pass1.specs.declared.state.Found.{Found}
-use Rattle.gier_pass1.specs.declared.state.Found.TheVariants.{Nothing, Written, Wrong}
+use Rattle.gier_pass1.specs.declared.state.Token.{Token}
+use Rattle.gier_pass1.specs.declared.state.Token.TheVariants.{Nothing, Written, LexError}
 use Rattle.gier_pass1.specs.declared.state.Step.{Step}
-use Rattle.gier_pass1.specs.Bytes.{starts_word, kind_of, alone, double_of}
+use Rattle.gier_pass1.specs.Bytes.{starts_word, kind_of, single_sign, double_of}
 
 -- before the first byte, in line 1
 abbrev pub first_place : Place
@@ -33,13 +33,13 @@ abbrev pub line_after : ℕ → ℕ → ℕ
 line_after line byte = if byte == 10 then line + 1 else line
 
 -- at the next byte
-abbrev pub passed : State → ℕ → State
-passed state byte = record state { here = record { at = state.here.at + 1; line = line_after state.here.line byte } }
+abbrev pub at_next_byte : State → ℕ → State
+at_next_byte state byte = record state { here = record { at = state.here.at + 1; line = line_after state.here.line byte } }
 
 abbrev pub is_start : Mode → Bool
 is_start Start = true
 is_start Between = false
-is_start (AfterOpener opener) = false
+is_start (AfterPrefix opener) = false
 is_start InWord = false
 is_start (InString depth) = false
 is_start InComment = false
@@ -49,7 +49,7 @@ is_start InSkippedWord = false
 abbrev pub in_word : Mode → Bool
 in_word Start = false
 in_word Between = false
-in_word (AfterOpener opener) = false
+in_word (AfterPrefix opener) = false
 in_word InWord = true
 in_word (InString depth) = false
 in_word InComment = false
@@ -60,7 +60,7 @@ in_word InSkippedWord = true
 abbrev pub depth_of : Mode → ℕ
 depth_of Start = 0
 depth_of Between = 0
-depth_of (AfterOpener opener) = 0
+depth_of (AfterPrefix opener) = 0
 depth_of InWord = 0
 depth_of (InString depth) = depth
 depth_of InComment = 0
@@ -68,17 +68,17 @@ depth_of InSkipped = 0
 depth_of InSkippedWord = 0
 
 -- a symbol has the line of its first byte, and a fault its place
-abbrev pub began_symbol : State → ℕ → Found
+abbrev pub began_symbol : State → ℕ → Token
 began_symbol state number = Written (record { tag = number; value = 0; line = state.began.line })
 
-abbrev pub here_symbol : State → Tag → ℕ → Found
+abbrev pub here_symbol : State → Tag → ℕ → Token
 here_symbol state tag value = Written (record { tag = number_of tag; value = value; line = state.here.line })
 
-abbrev pub began_fault : State → FaultKind → Found
-began_fault state kind = Wrong (record { position = state.began.at; line = state.began.line; kind = kind })
+abbrev pub began_fault : State → FaultKind → Token
+began_fault state kind = LexError (record { position = state.began.at; line = state.began.line; kind = kind })
 
-abbrev pub here_fault : State → FaultKind → Found
-here_fault state kind = Wrong (record { position = state.here.at; line = state.here.line; kind = kind })
+abbrev pub here_fault : State → FaultKind → Token
+here_fault state kind = LexError (record { position = state.here.at; line = state.here.line; kind = kind })
 
 -- the byte is taken, or isn't, and nothing is found
 abbrev pub goes : State → Step
@@ -88,25 +88,25 @@ abbrev pub stays : State → Step
 stays state = record { state = state; found = Nothing; taken = false }
 
 -- where a symbol may begin; a comment may begin there behind `;` and the begin word
-abbrev pub between : State → Bool → State
-between state may_comment = record state { mode = Between; may_comment = may_comment }
+abbrev pub between_symbols : State → Bool → State
+between_symbols state may_comment = record state { mode = Between; may_comment = may_comment }
 
 -- a sign ends with the byte that makes it a double one, and else before the next byte
-abbrev pub double_behind : Opener → Option ℕ → Option Tag
+abbrev pub double_behind : DoubleSignPrefix → Option ℕ → Option Tag
 double_behind opener None = None
 double_behind opener (Some byte) = double_of opener byte
 
-abbrev pub sign_of_double : State → Opener → Option Tag → Step
-sign_of_double state opener None = record { state = between state false; found = began_symbol state (number_of (alone opener)); taken = false }
-sign_of_double state opener (Some tag) = record { state = between state false; found = began_symbol state (number_of tag); taken = true }
+abbrev pub sign_of_double : State → DoubleSignPrefix → Option Tag → Step
+sign_of_double state opener None = record { state = between_symbols state false; found = began_symbol state (number_of (single_sign opener)); taken = false }
+sign_of_double state opener (Some tag) = record { state = between_symbols state false; found = began_symbol state (number_of tag); taken = true }
 
-abbrev pub sign_ended : State → Opener → Option ℕ → Step
+abbrev pub sign_ended : State → DoubleSignPrefix → Option ℕ → Step
 sign_ended state opener byte = sign_of_double state opener (double_behind opener byte)
 
 abbrev pub sign_step_in : Mode → State → Option ℕ → Step
 sign_step_in Start state byte = stays state
 sign_step_in Between state byte = stays state
-sign_step_in (AfterOpener opener) state byte = sign_ended state opener byte
+sign_step_in (AfterPrefix opener) state byte = sign_ended state opener byte
 sign_step_in InWord state byte = stays state
 sign_step_in (InString depth) state byte = stays state
 sign_step_in InComment state byte = stays state
@@ -121,7 +121,7 @@ abbrev pub mode_behind : ℕ → Mode
 mode_behind number = if number == number_of End then InSkipped else Between
 
 abbrev pub fault_of_word : State → Bool → Step
-fault_of_word state taken = record { state = between state false; found = began_fault state WordFault; taken = taken }
+fault_of_word state taken = record { state = between_symbols state false; found = began_fault state WordFault; taken = taken }
 
 -- the comment word is a fault where no comment may begin
 abbrev pub comment_word : State → Bool → Step
@@ -148,7 +148,7 @@ skipped_word state number taken =
 abbrev pub word_found_in : Mode → State → ℕ → Bool → Step
 word_found_in Start state number taken = stays state
 word_found_in Between state number taken = stays state
-word_found_in (AfterOpener opener) state number taken = stays state
+word_found_in (AfterPrefix opener) state number taken = stays state
 word_found_in InWord state number taken = plain_word state number taken
 word_found_in (InString depth) state number taken = stays state
 word_found_in InComment state number taken = stays state
@@ -161,7 +161,7 @@ word_found state number taken = word_found_in state.mode state number taken
 abbrev pub word_wrong_in : Mode → State → Bool → Step
 word_wrong_in Start state taken = stays state
 word_wrong_in Between state taken = stays state
-word_wrong_in (AfterOpener opener) state taken = stays state
+word_wrong_in (AfterPrefix opener) state taken = stays state
 word_wrong_in InWord state taken = fault_of_word state taken
 word_wrong_in (InString depth) state taken = stays state
 word_wrong_in InComment state taken = stays state
@@ -180,7 +180,7 @@ word_step state (WordBefore number) = word_found state number false
 word_step state FaultBefore = word_wrong state false
 
 abbrev pub one_byte : State → Tag → ℕ → Step
-one_byte state tag value = record { state = between state (number_of tag == number_of Semicolon); found = here_symbol state tag value; taken = true }
+one_byte state tag value = record { state = between_symbols state (number_of tag == number_of Semicolon); found = here_symbol state tag value; taken = true }
 
 abbrev pub opens : State → Mode → Step
 opens state mode = goes (record state { mode = mode; began = state.here })
@@ -195,9 +195,9 @@ begin_as LetterKind state byte = one_byte state Letter byte
 begin_as DigitKind state byte = one_byte state Digit (byte - 48)
 begin_as WordStart state byte = opens state InWord
 begin_as StringStart state byte = string_starts state
-begin_as (OpenerKind opener) state byte = opens state (AfterOpener opener)
+begin_as (OpenerKind opener) state byte = opens state (AfterPrefix opener)
 begin_as (Sign tag) state byte = one_byte state tag 0
-begin_as Other state byte = record { state = between state false; found = here_fault state Character; taken = true }
+begin_as Other state byte = record { state = between_symbols state false; found = here_fault state Character; taken = true }
 
 abbrev pub begin_step : State → ℕ → Step
 begin_step state byte = begin_as (kind_of state.spelling byte) state byte
@@ -235,7 +235,7 @@ skipped_step state byte =
 abbrev pub taken_in : Mode → State → ℕ → Step
 taken_in Start state byte = first_step state byte
 taken_in Between state byte = begin_step state byte
-taken_in (AfterOpener opener) state byte = begin_step state byte
+taken_in (AfterPrefix opener) state byte = begin_step state byte
 taken_in InWord state byte = begin_step state byte
 taken_in (InString depth) state byte = string_step state depth byte
 taken_in InComment state byte = comment_step state byte
@@ -247,15 +247,15 @@ abbrev pub taken_step : State → ℕ → Step
 taken_step state byte = taken_in state.mode state byte
 
 -- what the end gives, before which this step stands: a string that isn't closed is a fault
-abbrev pub at_end_in : Mode → Step → Found
+abbrev pub at_end_in : Mode → Step → Token
 at_end_in Start step = step.found
 at_end_in Between step = step.found
-at_end_in (AfterOpener opener) step = step.found
+at_end_in (AfterPrefix opener) step = step.found
 at_end_in InWord step = step.found
 at_end_in (InString depth) step = began_fault step.state Unclosed
 at_end_in InComment step = step.found
 at_end_in InSkipped step = step.found
 at_end_in InSkippedWord step = step.found
 
-abbrev pub at_end : Step → Found
+abbrev pub at_end : Step → Token
 at_end step = at_end_in step.state.mode step

@@ -3,12 +3,12 @@ use Rattle.std.specs.Prelude.{◌≡◌, ◌≤◌, ◌+◌, ◌&&◌, ℕ, fals
 use Rattle.gier_symbol.specs.Words.{is_next_letter}
 use Rattle.gier_strop.specs.declared.reader.Fed.{Fed}
 use Rattle.gier_strop.specs.Reading.{Reading, Feeds, behind, answer_to, with_letter}
-use Rattle.gier_pass1.specs.declared.scanner.Founds.{Founds}
+use Rattle.gier_pass1.specs.declared.scanner.ScanResult.{ScanResult}
 use Rattle.gier_pass1.specs.declared.scanner.Scanner.{Scanner}
 use Rattle.gier_pass1.specs.declared.state.Mode.TheVariants.{Start}
 use Rattle.gier_pass1.specs.declared.state.State.{State}
 use Rattle.gier_pass1.specs.declared.state.Step.{Step}
-use Rattle.gier_pass1.specs.Scan.{depth_of, in_word, sign_step, word_step, taken_step, goes, passed}
+use Rattle.gier_pass1.specs.Scan.{depth_of, in_word, sign_step, word_step, taken_step, goes, at_next_byte}
 use Rattle.gier_pass1.specs.Program.{longest}
 
 -- the reader of words has read some letters
@@ -68,8 +68,8 @@ pub record EndsStep (state : State) (letters : List ℕ) (next : Option ℕ) (st
   pub is_reader : reader ≡ behind state.spelling (letters_behind state letters next)
 
 -- a byte gives this behind these letters
-pub record TakesByte (old : Scanner) (letters : List ℕ) (byte : ℕ) (founds : Founds) (new : Scanner) : Type 0 where
+pub record TakesByte (old : Scanner) (letters : List ℕ) (byte : ℕ) (founds : ScanResult) (new : Scanner) : Type 0 where
   pub ended : founds.ended ≡ (ended_step old.state letters (Some byte)).found
   pub begun : founds.begun ≡ (begun_step (ended_step old.state letters (Some byte)) byte).found
-  pub state : new.state ≡ passed (begun_step (ended_step old.state letters (Some byte)) byte).state byte
+  pub state : new.state ≡ at_next_byte (begun_step (ended_step old.state letters (Some byte)) byte).state byte
   pub reader : new.reader ≡ behind new.state.spelling (letters_behind old.state letters (Some byte))

@@ -2,7 +2,7 @@
 ghost use Rattle.std.specs.Prelude.{◌≡◌, IsTrue, IfSome};
 ghost use Rattle.gier_symbol.specs.Tags.{number_of};
 ghost use Rattle.gier_symbol.specs.Texts.{stands_in};
-ghost use Rattle.gier_pass1.specs.Bytes.{is_layout, is_letter, is_digit, starts_word, opener_of, sign_of, sign_kind, kind_of, alone, double_of, IsSignOfText};
+ghost use Rattle.gier_pass1.specs.Bytes.{is_layout, is_letter, is_digit, starts_word, opener_of, sign_of, sign_kind, kind_of, single_sign, double_of, IsSignOfText};
 
 use gier_symbol::{Spelling, Tag};
 
@@ -17,7 +17,7 @@ pub(crate) enum Kind {
     /// It begins a string.
     StringStart,
     /// A sign that may be the first byte of a double one.
-    Opener(Opener),
+    DoubleSignPrefix(DoubleSignPrefix),
     /// Any other sign.
     Sign(Tag),
     /// None of these.
@@ -26,7 +26,7 @@ pub(crate) enum Kind {
 
 /// A sign that may be the first byte of a double one.
 #[derive(Debug, Clone, Copy, PartialEq, Eq)]
-pub(crate) enum Opener {
+pub(crate) enum DoubleSignPrefix {
     Less,
     Greater,
     Colon,
@@ -61,7 +61,7 @@ fn sign_kind(byte: u8) -> Kind
     ensures letter { IsSignOfText result }
 {
     match opener_of(byte) {
-        Some(opener) => Kind::Opener(opener),
+        Some(opener) => Kind::DoubleSignPrefix(opener),
         None => match sign_of(byte) {
             Some(tag) => Kind::Sign(tag),
             None => Kind::Other,
@@ -97,13 +97,13 @@ pub(crate) fn starts_word(spelling: Spelling, byte: u8) -> bool
     }
 }
 
-fn opener_of(byte: u8) -> Option<Opener>
+fn opener_of(byte: u8) -> Option<DoubleSignPrefix>
     ensures { result ≡ opener_of byte }
 {
     match byte {
-        b'<' => Some(Opener::Less),
-        b'>' => Some(Opener::Greater),
-        b':' => Some(Opener::Colon),
+        b'<' => Some(DoubleSignPrefix::Less),
+        b'>' => Some(DoubleSignPrefix::Greater),
+        b':' => Some(DoubleSignPrefix::Colon),
         _ => None,
     }
 }
@@ -129,33 +129,33 @@ fn sign_of(byte: u8) -> Option<Tag>
 }
 
 /// The sign alone.
-pub(crate) fn alone(opener: Opener) -> Tag
-    ensures sign { result ≡ alone opener }
+pub(crate) fn alone(opener: DoubleSignPrefix) -> Tag
+    ensures sign { result ≡ single_sign opener }
     ensures letter { IsTrue (stands_in 1 (number_of result)) }
 {
     match opener {
-        Opener::Less => Tag::Less,
-        Opener::Greater => Tag::Greater,
-        Opener::Colon => Tag::Colon,
+        DoubleSignPrefix::Less => Tag::Less,
+        DoubleSignPrefix::Greater => Tag::Greater,
+        DoubleSignPrefix::Colon => Tag::Colon,
     }
 }
 
 /// The double sign that the byte makes of the sign, where it makes one.
-pub(crate) fn double_of(opener: Opener, byte: u8) -> Option<Tag>
+pub(crate) fn double_of(opener: DoubleSignPrefix, byte: u8) -> Option<Tag>
     ensures sign { result ≡ double_of opener byte }
     ensures letter { IfSome result (λ tag. IsTrue (stands_in 1 (number_of tag))) }
 {
     match opener {
-        Opener::Less => match byte {
+        DoubleSignPrefix::Less => match byte {
             b'=' => Some(Tag::NotGreater),
             b'>' => Some(Tag::NotEqual),
             _ => None,
         },
-        Opener::Greater => match byte {
+        DoubleSignPrefix::Greater => match byte {
             b'=' => Some(Tag::NotLess),
             _ => None,
         },
-        Opener::Colon => match byte {
+        DoubleSignPrefix::Colon => match byte {
             b'=' => Some(Tag::Becomes),
             _ => None,
         },

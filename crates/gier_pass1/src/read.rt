@@ -3,13 +3,13 @@ ghost use Rattle.std.specs.Prelude.{◌≡◌, ◌≤◌, ◌<◌, ◌+◌, [], 
 ghost use Rattle.gier_word.specs.Cause.{HasRisen};
 ghost use Rattle.gier_symbol.specs.declared.symbol.Symbol.{Symbol};
 ghost use Rattle.gier_text.specs.declared.pass.PassStop.TheVariants.{Drum, Memory, Full};
-ghost use Rattle.gier_text.specs.Kept.{kept};
+ghost use Rattle.gier_text.specs.TablesModel.{tables_model};
 ghost use Rattle.gier_text.specs.Passes.{HasLess};
 ghost use Rattle.gier_text.specs.View.{IsEmpty, IsFull};
 ghost use Rattle.gier_pass1.specs.declared.read.ReadStop.TheVariants.{Read, Pass};
 ghost use Rattle.gier_pass1.specs.Program.{longest, Takes};
 ghost use Rattle.gier_pass1.specs.Puts.{Frame, Puts, AddsFaults, NeverSpoilt};
-ghost use Rattle.gier_pass1.specs.Told.{TellsAll};
+ghost use Rattle.gier_pass1.specs.TapeListing.{TellsAll};
 
 use crate::emit::put;
 use crate::program::next_byte;
@@ -44,14 +44,14 @@ impl Pass1 {
         out: &mut T,
         tables: &mut Tables,
     ) -> Result<u32, ReadStop>
-        requires limit { longest ≤ (kept tables.old).limit }
-        requires no_faults { (kept tables.old).faults ≡ [] }
+        requires limit { longest ≤ (tables_model tables.old).limit }
+        requires no_faults { (tables_model tables.old).faults ≡ [] }
         requires empty { IsEmpty (T.view out.old store.old) }
         requires placed { T.end_track out.old ≤ T.room store.old }
         ensures taken { Takes result (S.left tape.old) (S.left tape.new) }
         ensures symbols { OnOk result ((ws : List Symbol) × Puts ws (T.view out.old store.old) (T.view out.new store.new) (T.journal store.old) (T.journal store.new)) }
         ensures bounded { IfOk result (λ bytes. (T.view out.new store.new).count ≤ bytes + 1) }
-        ensures tables { AddsFaults (kept tables.old) (kept tables.new) longest }
+        ensures tables { AddsFaults (tables_model tables.old) (tables_model tables.new) longest }
         ensures frame { Frame T.view T.first_track T.end_track T.room T.tracks T.faults out.old store.old out.new store.new }
         ensures tape_later { S.faults tape.old ≤ S.faults tape.new }
         ensures read { IsErrOf result Read → HasRisen (S.faults tape.old) (S.faults tape.new) }

@@ -2,13 +2,13 @@
 ghost use Rattle.std.specs.Prelude.{◌≡◌, ◌<◌, ◌≤◌, ◌+◌, ◌^◌, [], None};
 ghost use Rattle.gier_strop.specs.declared.reader.Fed.TheVariants.{More};
 ghost use Rattle.gier_symbol.specs.declared.tag.Tag.TheVariants.{TextEnd};
-ghost use Rattle.gier_pass1.specs.Moves.{IsLetter, IsKnown, HasLines, Ends, Moves, symbols_in, faults_in, owed_symbols, owed_faults};
+ghost use Rattle.gier_pass1.specs.StepCounts.{IsLetter, IsKnown, HasLines, PreservesCountsAtEnd, PreservesCounts, symbols_in, faults_in, owed_symbols, owed_faults};
 ghost use Rattle.gier_pass1.specs.Program.{longest};
 ghost use Rattle.gier_pass1.specs.Scan.{depth_of, start_state, here_symbol, at_end};
 ghost use Rattle.gier_pass1.specs.Scanning.{IsScanning, HasLetters, ReadsLetters, IfRead, IfBehind, FeedsAny, KeepsLetters};
 ghost use Rattle.gier_pass1.specs.Scanning.{EndsWord, EndsStep, TakesByte, ended_step, begun_step};
 
-use crate::state::{Found, State, Step, start_state};
+use crate::state::{Token, State, Step, start_state};
 use crate::steps::{at_end, goes, sign_step, taken_step, word_step};
 use gier_strop::{Fed, Spelling, WordReader};
 use gier_symbol::Tag;
@@ -23,9 +23,9 @@ pub(crate) struct Scanner {
 
 /// What a byte gives: what ended before it or with it, and then what it gives by itself.
 #[derive(Debug, Clone, Copy, PartialEq, Eq)]
-pub(crate) struct Founds {
-    pub(crate) ended: Found,
-    pub(crate) begun: Found,
+pub(crate) struct ScanResult {
+    pub(crate) ended: Token,
+    pub(crate) begun: Token,
 }
 
 impl Scanner {
@@ -42,7 +42,7 @@ impl Scanner {
     }
 
     /// Takes the next byte.
-    pub(crate) fn take(&mut self, byte: u8) -> Founds
+    pub(crate) fn take(&mut self, byte: u8) -> ScanResult
         requires scanning { IsScanning self.old }
         requires fits { self.old.state.here.at < longest }
         ensures scanning { IsScanning self.new }
@@ -56,14 +56,14 @@ impl Scanner {
         let ended = self.ended(Some(byte));
         let begun = self.begun(ended, byte);
         self.state = begun.state.passed(byte);
-        Founds {
+        ScanResult {
             ended: ended.found,
             begun: begun.found,
         }
     }
 
     /// Takes the end of the program.
-    pub(crate) fn end(&mut self) -> Founds
+    pub(crate) fn end(&mut self) -> ScanResult
         requires { IsScanning self.old }
         ensures at { self.new.state.here ≡ self.old.state.here }
         ensures ended { IsLetter result.ended }
@@ -74,7 +74,7 @@ impl Scanner {
         ensures told { IfRead self.old (λ letters. result.ended ≡ at_end (ended_step self.old.state letters None)) }
     {
         let ended = self.ended(None);
-        Founds {
+        ScanResult {
             ended: at_end(ended),
             begun: ended.state.here_symbol(Tag::TextEnd, 0),
         }
@@ -85,7 +85,7 @@ impl Scanner {
         requires { IsScanning self.old }
         ensures reader { HasLetters self.new.reader }
         ensures state { self.new.state ≡ self.old.state }
-        ensures ends { Ends self.old.state result }
+        ensures ends { PreservesCountsAtEnd self.old.state result }
         ensures letter { IsLetter result.found }
         ensures told { IfRead self.old (λ letters. EndsStep self.old.state letters byte result self.new.reader) }
     {
@@ -99,7 +99,7 @@ impl Scanner {
         requires { IsScanning self.old }
         ensures reader { HasLetters self.new.reader }
         ensures state { self.new.state ≡ self.old.state }
-        ensures ends { Ends self.old.state result }
+        ensures ends { PreservesCountsAtEnd self.old.state result }
         ensures letter { IsLetter result.found }
         ensures told { IfBehind self.old (λ letters. EndsWord self.old.state letters byte result self.new.reader) }
     {
@@ -119,7 +119,7 @@ impl Scanner {
         requires depth { depth_of ended.state.mode < 2 ^ 24 }
         ensures reader { HasLetters self.new.reader }
         ensures state { self.new.state ≡ self.old.state }
-        ensures moves { Moves ended.state result }
+        ensures moves { PreservesCounts ended.state result }
         ensures letter { IsLetter result.found }
         ensures step { result ≡ begun_step ended byte }
         ensures told { KeepsLetters ended.state self.old.reader result.state self.new.reader }

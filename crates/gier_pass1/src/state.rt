@@ -2,10 +2,10 @@
 ghost use Rattle.std.specs.Prelude.{◌≡◌, ◌<◌, ◌^◌, IsTrue};
 ghost use Rattle.gier_symbol.specs.Tags.{number_of};
 ghost use Rattle.gier_symbol.specs.Texts.{stands_in};
-ghost use Rattle.gier_pass1.specs.Scan.{began_symbol, here_symbol, began_fault, here_fault, start_state, passed, is_start, in_word, line_after};
-ghost use Rattle.gier_pass1.specs.Moves.{IsLetter};
+ghost use Rattle.gier_pass1.specs.Scan.{began_symbol, here_symbol, began_fault, here_fault, start_state, at_next_byte, is_start, in_word, line_after};
+ghost use Rattle.gier_pass1.specs.StepCounts.{IsLetter};
 
-use crate::bytes::Opener;
+use crate::bytes::DoubleSignPrefix;
 use gier_symbol::{Spelling, Symbol, Tag};
 use gier_text::{Fault, FaultKind};
 
@@ -17,7 +17,7 @@ pub(crate) enum Mode {
     /// A symbol may begin.
     Between,
     /// A sign that may be the first byte of a double one.
-    AfterOpener(Opener),
+    AfterPrefix(DoubleSignPrefix),
     /// A word.
     InWord,
     /// A string, with so many `{` more than `}` so far.
@@ -52,17 +52,17 @@ pub(crate) struct State {
 
 /// What a step finds.
 #[derive(Debug, Clone, Copy, PartialEq, Eq)]
-pub(crate) enum Found {
+pub(crate) enum Token {
     Nothing,
     Written(Symbol),
-    Wrong(Fault),
+    LexError(Fault),
 }
 
 /// A step: where the reading stands behind it, what it found, and whether the byte belongs to it.
 #[derive(Debug, Clone, Copy, PartialEq, Eq)]
 pub(crate) struct Step {
     pub(crate) state: State,
-    pub(crate) found: Found,
+    pub(crate) found: Token,
     pub(crate) taken: bool,
 }
 
@@ -85,7 +85,7 @@ impl State {
     pub(crate) fn passed(self, byte: u8) -> State
         requires at { self.here.at < 2 ^ 24 }
         requires line { self.here.line < 2 ^ 24 }
-        ensures { result ≡ passed self byte }
+        ensures { result ≡ at_next_byte self byte }
     {
         State {
             here: Place {
@@ -118,13 +118,13 @@ impl State {
     }
 
     /// A symbol whose first byte stands where the sign, word or string began.
-    pub(crate) fn began_symbol(self, number: u16) -> Found
+    pub(crate) fn began_symbol(self, number: u16) -> Token
         requires line { self.began.line < 2 ^ 24 }
         requires letter { IsTrue (stands_in 1 number) }
         ensures found { result ≡ began_symbol self number }
         ensures letter { IsLetter result }
     {
-        Found::Written(Symbol {
+        Token::Written(Symbol {
             tag: number,
             value: 0,
             line: self.began.line,
@@ -132,20 +132,20 @@ impl State {
     }
 
     /// A symbol of the byte here.
-    pub(crate) fn here_symbol(self, tag: Tag, value: u8) -> Found
+    pub(crate) fn here_symbol(self, tag: Tag, value: u8) -> Token
         requires line { self.here.line < 2 ^ 24 }
         requires letter { IsTrue (stands_in 1 (number_of tag)) }
         ensures found { result ≡ here_symbol self tag value }
         ensures letter { IsLetter result }
     {
-        Found::Written(Symbol::new(tag, u64::from(value), self.here.line))
+        Token::Written(Symbol::new(tag, u64::from(value), self.here.line))
     }
 
     /// A fault where the word or string began.
-    pub(crate) fn began_fault(self, kind: FaultKind) -> Found
+    pub(crate) fn began_fault(self, kind: FaultKind) -> Token
         ensures { result ≡ began_fault self kind }
     {
-        Found::Wrong(Fault {
+        Token::LexError(Fault {
             position: self.began.at,
             line: self.began.line,
             kind,
@@ -153,10 +153,10 @@ impl State {
     }
 
     /// A fault of the byte here.
-    pub(crate) fn here_fault(self, kind: FaultKind) -> Found
+    pub(crate) fn here_fault(self, kind: FaultKind) -> Token
         ensures { result ≡ here_fault self kind }
     {
-        Found::Wrong(Fault {
+        Token::LexError(Fault {
             position: self.here.at,
             line: self.here.line,
             kind,

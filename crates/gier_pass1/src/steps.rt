@@ -3,12 +3,12 @@
 ghost use Rattle.std.specs.Prelude.{◌≡◌, ◌<◌, ◌≤◌, ◌+◌, ◌-◌, ◌^◌, IsTrue, IfSome, true};
 ghost use Rattle.gier_symbol.specs.Tags.{number_of};
 ghost use Rattle.gier_symbol.specs.Texts.{stands_in};
-ghost use Rattle.gier_pass1.specs.declared.state.Mode.TheVariants.{AfterOpener, InWord, InString, InComment, InSkipped, InSkippedWord};
+ghost use Rattle.gier_pass1.specs.declared.state.Mode.TheVariants.{AfterPrefix, InWord, InString, InComment, InSkipped, InSkippedWord};
 ghost use Rattle.gier_pass1.specs.Scan.{depth_of, goes, stays, sign_step, sign_ended, double_behind, word_step, word_found, word_wrong, plain_word, comment_word, mode_behind, skipped_word, skipped_on, fault_of_word, taken_step, first_step, begin_step, one_byte, opens, string_starts, string_step, string_shut, string_byte, comment_step, skipped_step, at_end};
-ghost use Rattle.gier_pass1.specs.Moves.{IsLetter, IsKnown, IsOpened, HasLines, Ends, Moves, is_word_number, symbols_in, faults_in, owed_faults};
+ghost use Rattle.gier_pass1.specs.StepCounts.{IsLetter, IsKnown, IsOpened, HasLines, PreservesCountsAtEnd, PreservesCounts, is_word_number, symbols_in, faults_in, owed_faults};
 
-use crate::bytes::{Kind, Opener, alone, double_of, kind_of, starts_word};
-use crate::state::{Found, Mode, State, Step};
+use crate::bytes::{Kind, DoubleSignPrefix, alone, double_of, kind_of, starts_word};
+use crate::state::{Token, Mode, State, Step};
 use gier_strop::Fed;
 use gier_symbol::{COMMENT_WORD, Spelling, Tag};
 use gier_text::FaultKind;
@@ -19,7 +19,7 @@ pub(crate) fn goes(state: State) -> Step
 {
     Step {
         state,
-        found: Found::Nothing,
+        found: Token::Nothing,
         taken: true,
     }
 }
@@ -30,7 +30,7 @@ fn stays(state: State) -> Step
 {
     Step {
         state,
-        found: Found::Nothing,
+        found: Token::Nothing,
         taken: false,
     }
 }
@@ -39,20 +39,20 @@ fn stays(state: State) -> Step
 pub(crate) fn sign_step(state: State, byte: Option<u8>) -> Step
     requires { HasLines state }
     ensures step { result ≡ sign_step state byte }
-    ensures ends { Ends state result }
+    ensures ends { PreservesCountsAtEnd state result }
     ensures letter { IsLetter result.found }
 {
     match state.mode {
-        Mode::AfterOpener(opener) => sign_ended(state, opener, byte),
+        Mode::AfterPrefix(opener) => sign_ended(state, opener, byte),
         _ => stays(state),
     }
 }
 
-fn sign_ended(state: State, opener: Opener, byte: Option<u8>) -> Step
+fn sign_ended(state: State, opener: DoubleSignPrefix, byte: Option<u8>) -> Step
     requires lines { HasLines state }
-    requires mode { state.mode ≡ AfterOpener opener }
+    requires mode { state.mode ≡ AfterPrefix opener }
     ensures step { result ≡ sign_ended state opener byte }
-    ensures ends { Ends state result }
+    ensures ends { PreservesCountsAtEnd state result }
     ensures letter { IsLetter result.found }
 {
     let next = State {
@@ -74,7 +74,7 @@ fn sign_ended(state: State, opener: Opener, byte: Option<u8>) -> Step
     }
 }
 
-fn double_behind(opener: Opener, byte: Option<u8>) -> Option<Tag>
+fn double_behind(opener: DoubleSignPrefix, byte: Option<u8>) -> Option<Tag>
     ensures sign { result ≡ double_behind opener byte }
     ensures letter { IfSome result (λ tag. IsTrue (stands_in 1 (number_of tag))) }
 {
@@ -89,7 +89,7 @@ pub(crate) fn word_step(state: State, fed: Fed) -> Step
     requires lines { HasLines state }
     requires known { IsKnown fed }
     ensures step { result ≡ word_step state fed }
-    ensures ends { Ends state result }
+    ensures ends { PreservesCountsAtEnd state result }
     ensures letter { IsLetter result.found }
 {
     match fed {
@@ -105,7 +105,7 @@ fn word_found(state: State, number: u16, taken: bool) -> Step
     requires lines { HasLines state }
     requires known { IsTrue (is_word_number number) }
     ensures step { result ≡ word_found state number taken }
-    ensures ends { Ends state result }
+    ensures ends { PreservesCountsAtEnd state result }
     ensures letter { IsLetter result.found }
 {
     match state.mode {
@@ -121,7 +121,7 @@ fn plain_word(state: State, number: u16, taken: bool) -> Step
     requires known { IsTrue (is_word_number number) }
     requires mode { state.mode ≡ InWord }
     ensures step { result ≡ plain_word state number taken }
-    ensures ends { Ends state result }
+    ensures ends { PreservesCountsAtEnd state result }
     ensures letter { IsLetter result.found }
 {
     if number == COMMENT_WORD {
@@ -143,7 +143,7 @@ fn comment_word(state: State, taken: bool) -> Step
     requires lines { HasLines state }
     requires mode { state.mode ≡ InWord }
     ensures step { result ≡ comment_word state taken }
-    ensures ends { Ends state result }
+    ensures ends { PreservesCountsAtEnd state result }
     ensures letter { IsLetter result.found }
 {
     if state.may_comment {
@@ -152,7 +152,7 @@ fn comment_word(state: State, taken: bool) -> Step
                 mode: Mode::InComment,
                 ..state
             },
-            found: Found::Nothing,
+            found: Token::Nothing,
             taken,
         }
     } else {
@@ -177,7 +177,7 @@ fn skipped_word(state: State, number: u16, taken: bool) -> Step
     requires lines { HasLines state }
     requires mode { state.mode ≡ InSkippedWord }
     ensures step { result ≡ skipped_word state number taken }
-    ensures ends { Ends state result }
+    ensures ends { PreservesCountsAtEnd state result }
     ensures letter { IsLetter result.found }
 {
     if number == Tag::End.number() || number == Tag::Else.number() {
@@ -200,7 +200,7 @@ fn skipped_on(state: State, taken: bool) -> Step
     requires lines { HasLines state }
     requires mode { state.mode ≡ InSkippedWord }
     ensures step { result ≡ skipped_on state taken }
-    ensures ends { Ends state result }
+    ensures ends { PreservesCountsAtEnd state result }
     ensures letter { IsLetter result.found }
 {
     Step {
@@ -208,7 +208,7 @@ fn skipped_on(state: State, taken: bool) -> Step
             mode: Mode::InSkipped,
             ..state
         },
-        found: Found::Nothing,
+        found: Token::Nothing,
         taken,
     }
 }
@@ -216,7 +216,7 @@ fn skipped_on(state: State, taken: bool) -> Step
 fn word_wrong(state: State, taken: bool) -> Step
     requires { HasLines state }
     ensures step { result ≡ word_wrong state taken }
-    ensures ends { Ends state result }
+    ensures ends { PreservesCountsAtEnd state result }
     ensures letter { IsLetter result.found }
 {
     match state.mode {
@@ -230,7 +230,7 @@ fn fault_of_word(state: State, taken: bool) -> Step
     requires lines { HasLines state }
     requires mode { state.mode ≡ InWord }
     ensures step { result ≡ fault_of_word state taken }
-    ensures ends { Ends state result }
+    ensures ends { PreservesCountsAtEnd state result }
     ensures letter { IsLetter result.found }
 {
     Step {
@@ -249,7 +249,7 @@ pub(crate) fn taken_step(state: State, byte: u8) -> Step
     requires lines { HasLines state }
     requires depth { depth_of state.mode < 2 ^ 24 }
     ensures step { result ≡ taken_step state byte }
-    ensures moves { Moves state result }
+    ensures moves { PreservesCounts state result }
     ensures letter { IsLetter result.found }
     ensures taken { result.taken ≡ true }
 {
@@ -266,7 +266,7 @@ pub(crate) fn taken_step(state: State, byte: u8) -> Step
 fn first_step(state: State, byte: u8) -> Step
     requires { HasLines state }
     ensures step { result ≡ first_step state byte }
-    ensures moves { Moves state result }
+    ensures moves { PreservesCounts state result }
     ensures letter { IsLetter result.found }
     ensures taken { result.taken ≡ true }
 {
@@ -285,7 +285,7 @@ fn first_step(state: State, byte: u8) -> Step
 fn begin_step(state: State, byte: u8) -> Step
     requires { HasLines state }
     ensures step { result ≡ begin_step state byte }
-    ensures moves { Moves state result }
+    ensures moves { PreservesCounts state result }
     ensures letter { IsLetter result.found }
     ensures taken { result.taken ≡ true }
 {
@@ -298,7 +298,7 @@ fn begin_step(state: State, byte: u8) -> Step
         Kind::Digit => one_byte(state, Tag::Digit, digit_value(byte)),
         Kind::WordStart => opens(state, Mode::InWord),
         Kind::StringStart => string_starts(state),
-        Kind::Opener(opener) => opens(state, Mode::AfterOpener(opener)),
+        Kind::DoubleSignPrefix(opener) => opens(state, Mode::AfterPrefix(opener)),
         Kind::Sign(tag) => one_byte(state, tag, 0),
         Kind::Other => Step {
             state: State {
@@ -317,7 +317,7 @@ fn one_byte(state: State, tag: Tag, value: u8) -> Step
     requires lines { HasLines state }
     requires letter { IsTrue (stands_in 1 (number_of tag)) }
     ensures step { result ≡ one_byte state tag value }
-    ensures moves { Moves state result }
+    ensures moves { PreservesCounts state result }
     ensures letter { IsLetter result.found }
     ensures taken { result.taken ≡ true }
 {
@@ -343,7 +343,7 @@ fn opens(state: State, mode: Mode) -> Step
     requires lines { HasLines state }
     requires mode { IsOpened mode }
     ensures step { result ≡ opens state mode }
-    ensures moves { Moves state result }
+    ensures moves { PreservesCounts state result }
     ensures letter { IsLetter result.found }
     ensures taken { result.taken ≡ true }
 {
@@ -357,7 +357,7 @@ fn opens(state: State, mode: Mode) -> Step
 fn string_starts(state: State) -> Step
     requires { HasLines state }
     ensures step { result ≡ string_starts state }
-    ensures moves { Moves state result }
+    ensures moves { PreservesCounts state result }
     ensures letter { IsLetter result.found }
     ensures taken { result.taken ≡ true }
 {
@@ -379,7 +379,7 @@ fn string_step(state: State, depth: u32, byte: u8) -> Step
     requires mode { state.mode ≡ InString depth }
     requires depth { depth < 2 ^ 24 }
     ensures step { result ≡ string_step state depth byte }
-    ensures moves { Moves state result }
+    ensures moves { PreservesCounts state result }
     ensures letter { IsLetter result.found }
     ensures taken { result.taken ≡ true }
 {
@@ -397,7 +397,7 @@ fn string_shut(state: State, depth: u32, byte: u8) -> Step
     requires lines { HasLines state }
     requires mode { state.mode ≡ InString depth }
     ensures step { result ≡ string_shut state depth byte }
-    ensures moves { Moves state result }
+    ensures moves { PreservesCounts state result }
     ensures letter { IsLetter result.found }
     ensures taken { result.taken ≡ true }
 {
@@ -419,7 +419,7 @@ fn string_byte(state: State, depth: u32, next: u32, byte: u8) -> Step
     requires mode { state.mode ≡ InString depth }
     requires next { next ≤ depth + 1 }
     ensures step { result ≡ string_byte state next byte }
-    ensures moves { Moves state result }
+    ensures moves { PreservesCounts state result }
     ensures letter { IsLetter result.found }
     ensures taken { result.taken ≡ true }
 {
@@ -438,7 +438,7 @@ fn comment_step(state: State, byte: u8) -> Step
     requires lines { HasLines state }
     requires mode { state.mode ≡ InComment }
     ensures step { result ≡ comment_step state byte }
-    ensures moves { Moves state result }
+    ensures moves { PreservesCounts state result }
     ensures letter { IsLetter result.found }
     ensures taken { result.taken ≡ true }
 {
@@ -457,7 +457,7 @@ fn skipped_step(state: State, byte: u8) -> Step
     requires lines { HasLines state }
     requires mode { state.mode ≡ InSkipped }
     ensures step { result ≡ skipped_step state byte }
-    ensures moves { Moves state result }
+    ensures moves { PreservesCounts state result }
     ensures letter { IsLetter result.found }
     ensures taken { result.taken ≡ true }
 {
@@ -471,7 +471,7 @@ fn skipped_step(state: State, byte: u8) -> Step
 }
 
 /// What the end gives, before which this step stands: a string that isn't closed is a fault.
-pub(crate) fn at_end(step: Step) -> Found
+pub(crate) fn at_end(step: Step) -> Token
     requires { IsLetter step.found }
     ensures found { result ≡ at_end step }
     ensures letter { IsLetter result }

@@ -2,13 +2,13 @@
 use Rattle.std.proofs.Common.{◌≡◌, ◌≢◌, ◌<◌, ◌+◌, ◌∙◌, ℕ, List, [], ◌∷◌, ◌++◌, refl, sym, ap, subst, arith, inl, inr, None}
 use Rattle.std.proofs.lemmas.Bool.{cases_eq, cases_lt}
 use Rattle.gier_symbol.specs.declared.symbol.Symbol.{Symbol}
-use Rattle.gier_symbol.specs.Assembled.{byte_of, place_of}
-use Rattle.gier_text.specs.Kept.{Kept}
+use Rattle.gier_symbol.specs.Assembly.{byte_of, place_of}
+use Rattle.gier_text.specs.TablesModel.{TablesModel}
 use Rattle.gier_text.specs.Lists.{TableList, word_at}
 use Rattle.gier_pass2.specs.Spelled.{IsSign}
 use Rattle.gier_pass2.specs.Tree.{Tree, IsTree, IsLast, IsChild, IsNumbered, Knows, Names, child_added, nodes_of, sign_at}
 use Rattle.gier_pass2.proofs.NodeWords.{HasWords}
-use Rattle.gier_pass2.proofs.Growing.{fresh_name, byte_same, with_child, parent_new, parent_old, name_new, name_old, last_kept, added_words, added_old, added_child, added_new, sign_old, sign_new, is_sign}
+use Rattle.gier_pass2.proofs.TreeGrowth.{fresh_name, byte_same, with_child, parent_new, parent_old, name_new, name_old, last_kept, added_words, added_old, added_child, added_new, sign_old, sign_new, is_sign}
 
 has_words : (nodes : TableList) (tree : Tree) → IsTree nodes tree → HasWords nodes
 has_words nodes tree h = record { width = h.width; filled = h.filled }
@@ -171,7 +171,7 @@ numbers_more nodes tree node s names h nl sign none numbered = record {
 }
 
 -- a node for the name with one symbol more: a new one where there was none
-pub names_added : (t new : Kept) (tree : Tree) (node : ℕ) (s : Symbol) (known : ℕ) (names : List (List ℕ)) → Knows t tree known names
+pub names_added : (t new : TablesModel) (tree : Tree) (node : ℕ) (s : Symbol) (known : ℕ) (names : List (List ℕ)) → Knows t tree known names
     → node < (nodes_of t).count → IsSign s → IsChild (nodes_of t) tree node s 0 → nodes_of new ≡ child_added (nodes_of t) node s
     → Names new known names (nodes_of t).count (tree.name node ++ byte_of s ∷ [])
 names_added t new tree node s known names h nl sign none is = record {
@@ -184,7 +184,7 @@ names_added t new tree node s known names h nl sign none is = record {
   named = name_new tree (nodes_of t).count node (byte_of s);
 }
 
-pub names_found : (t : Kept) (tree : Tree) (node at : ℕ) (s : Symbol) (known : ℕ) (names : List (List ℕ)) → Knows t tree known names
+pub names_found : (t : TablesModel) (tree : Tree) (node at : ℕ) (s : Symbol) (known : ℕ) (names : List (List ℕ)) → Knows t tree known names
     → at < (nodes_of t).count → 0 < at → IsChild (nodes_of t) tree node s at → Names t known names at (tree.name node ++ byte_of s ∷ [])
 names_found t tree node at s known names h lt some child = record {
   tree = tree;

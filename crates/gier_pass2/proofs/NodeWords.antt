@@ -2,8 +2,8 @@
 use Rattle.std.proofs.Common.{◌≡◌, ◌≢◌, ◌<◌, ◌≤◌, ◌⊎◌, ◌+◌, ◌*◌, ◌-◌, ◌∙◌, ℕ, List, [], ◌∷◌, length, get_or, ap, arith, length-append, length-set, inl, inr}
 use Rattle.std.proofs.lemmas.List.{get_or-set_same, get_or-set_other, get_or_append_left}
 use Rattle.std.proofs.Math.Seq.{get_or-append_right}
-use Rattle.gier_text.specs.Kept.{Kept, with_at}
-use Rattle.gier_text.specs.Lists.{TableList, no_list, word_at, pushed, with_word}
+use Rattle.gier_text.specs.TablesModel.{TablesModel, with_at}
+use Rattle.gier_text.specs.Lists.{TableList, no_list, word_at, with_entry, with_word}
 use Rattle.gier_pass2.specs.Tree.{nodes_of}
 
 -- five words each
@@ -11,7 +11,7 @@ pub record HasWords (nodes : TableList) : Type 0 where
   pub width : nodes.width ≡ 5
   pub filled : length nodes.words ≡ 5 * nodes.count
 
-pub words_pushed : (nodes : TableList) (a b c d e : ℕ) → HasWords nodes → HasWords (pushed nodes (a ∷ b ∷ c ∷ d ∷ e ∷ []))
+pub words_pushed : (nodes : TableList) (a b c d e : ℕ) → HasWords nodes → HasWords (with_entry nodes (a ∷ b ∷ c ∷ d ∷ e ∷ []))
 words_pushed nodes a b c d e h = record {
   width = h.width;
   filled = omega
@@ -26,12 +26,12 @@ words_set nodes at part word h = record {
 }
 
 pub word_before : (nodes : TableList) (entry : List ℕ) (n part : ℕ) → HasWords nodes → n < nodes.count → part < 5
-    → word_at (pushed nodes entry) n part ≡ word_at nodes n part
+    → word_at (with_entry nodes entry) n part ≡ word_at nodes n part
 word_before nodes entry n part h lt few = get_or_append_left nodes.words entry 0 (nodes.width * n + part)
     (rw h.width (omega (arith, h.filled)))
 
 pub word_pushed : (nodes : TableList) (entry : List ℕ) (part : ℕ) → HasWords nodes → part < 5
-    → word_at (pushed nodes entry) nodes.count part ≡ get_or entry part 0
+    → word_at (with_entry nodes entry) nodes.count part ≡ get_or entry part 0
 word_pushed nodes entry part h few =
     let behind : length nodes.words ≤ nodes.width * nodes.count + part = rw h.width (omega (arith, h.filled)) in
     let place : nodes.width * nodes.count + part - length nodes.words ≡ part = rw h.width (omega (arith, h.filled)) in
@@ -52,5 +52,5 @@ word_other nodes at part word n other h few small ne =
     ])
 
 -- another list in place of the nodes
-pub nodes_set : (t : Kept) (nodes : TableList) → length t.lists ≡ 1 → nodes_of (with_at t 0 nodes) ≡ nodes
+pub nodes_set : (t : TablesModel) (nodes : TableList) → length t.lists ≡ 1 → nodes_of (with_at t 0 nodes) ≡ nodes
 nodes_set t nodes one = get_or-set_same t.lists 0 nodes no_list (omega (arith, one))

@@ -1,12 +1,12 @@
 -- A node gets the next number, or has one.
 use Rattle.std.proofs.Common.{◌≡◌, ◌≢◌, ◌<◌, ◌⊎◌, ◌+◌, ◌-◌, ◌∙◌, ℕ, suc, List, [], ◌∷◌, ◌++◌, length, refl, sym, ap, subst, arith, inl, inr, Option, None, Some, length-append}
 use Rattle.std.proofs.lemmas.Bool.{cases_eq}
-use Rattle.gier_symbol.specs.Assembled.{byte_of, place_of}
+use Rattle.gier_symbol.specs.Assembly.{byte_of, place_of}
 use Rattle.gier_symbol.specs.declared.symbol.Symbol.{Symbol}
-use Rattle.gier_text.specs.Kept.{Kept}
+use Rattle.gier_text.specs.TablesModel.{TablesModel}
 use Rattle.gier_text.specs.Lists.{TableList, word_at, with_word}
 use Rattle.gier_pass2.specs.Spelled.{IsSign}
-use Rattle.gier_pass2.specs.Tree.{Tree, IsTree, IsNumbered, IsNumberOf, Knows, nodes_of, sign_at, counted}
+use Rattle.gier_pass2.specs.Tree.{Tree, IsTree, IsNumbered, IsNumberOf, Knows, nodes_of, sign_at, next_number}
 use Rattle.gier_pass2.proofs.NodeWords.{HasWords, words_set, word_set, word_other}
 use Rattle.gier_pass2.proofs.Numbers.{place_new, place_kept, place_below}
 
@@ -60,7 +60,7 @@ numbers_set nodes tree node names h nl numbered none = record {
 }
 
 -- a name without a number gets the next one
-pub new_number : (t new : Kept) (tree : Tree) (node known : ℕ) (names : List (List ℕ)) → Knows t tree known names
+pub new_number : (t new : TablesModel) (tree : Tree) (node known : ℕ) (names : List (List ℕ)) → Knows t tree known names
     → node < (nodes_of t).count → place_of (tree.name node) names ≡ None → nodes_of new ≡ with_word (nodes_of t) node 4 (known + 1)
     → IsNumberOf new tree (known + 1) names (tree.name node) known
 new_number t new tree node known names h nl none is =
@@ -75,31 +75,31 @@ new_number t new tree node known names h nl none is =
       value = rw none h.count;
     }
 
-found_by : (place : Option ℕ) (t : Kept) (tree : Tree) (node known : ℕ) (names : List (List ℕ)) → place_of (tree.name node) names ≡ place
+found_by : (place : Option ℕ) (t : TablesModel) (tree : Tree) (node known : ℕ) (names : List (List ℕ)) → place_of (tree.name node) names ≡ place
     → Knows t tree known names → node < (nodes_of t).count → word_at (nodes_of t) node 4 ≢ 0
     → IsNumberOf t tree known names (tree.name node) (word_at (nodes_of t) node 4 - 1)
 found_by None t tree node known names is h nl some =
-    let word : word_at (nodes_of t) node 4 ≡ counted (place_of (tree.name node) names) = h.numbered.numbers node nl in
-    let zero_word : word_at (nodes_of t) node 4 ≡ 0 = word ∙ ap counted is in
+    let word : word_at (nodes_of t) node 4 ≡ next_number (place_of (tree.name node) names) = h.numbered.numbers node nl in
+    let zero_word : word_at (nodes_of t) node 4 ≡ 0 = word ∙ ap next_number is in
     absurd (some zero_word)
 found_by (Some place) t tree node known names is h nl some =
-    let word : word_at (nodes_of t) node 4 ≡ suc place = h.numbered.numbers node nl ∙ ap counted is in
+    let word : word_at (nodes_of t) node 4 ≡ suc place = h.numbered.numbers node nl ∙ ap next_number is in
     record { knows = rw is h; value = rw is (omega (arith, word)) }
 
 -- a name with a number keeps it
-pub old_number : (t : Kept) (tree : Tree) (node known : ℕ) (names : List (List ℕ)) → Knows t tree known names → node < (nodes_of t).count
+pub old_number : (t : TablesModel) (tree : Tree) (node known : ℕ) (names : List (List ℕ)) → Knows t tree known names → node < (nodes_of t).count
     → word_at (nodes_of t) node 4 ≢ 0 → IsNumberOf t tree known names (tree.name node) (word_at (nodes_of t) node 4 - 1)
 old_number t tree node known names h nl some = found_by (place_of (tree.name node) names) t tree node known names refl h nl some
 
-none_by : (place : Option ℕ) (t : Kept) (tree : Tree) (node known : ℕ) (names : List (List ℕ)) → place_of (tree.name node) names ≡ place
+none_by : (place : Option ℕ) (t : TablesModel) (tree : Tree) (node known : ℕ) (names : List (List ℕ)) → place_of (tree.name node) names ≡ place
     → Knows t tree known names → node < (nodes_of t).count → (word_at (nodes_of t) node 4 ≡ 0) ⊎ (known < word_at (nodes_of t) node 4)
     → place ≡ None
 none_by None t tree node known names is h nl out = refl
 none_by (Some place) t tree node known names is h nl out =
-    let word : word_at (nodes_of t) node 4 ≡ suc place = h.numbered.numbers node nl ∙ ap counted is in
+    let word : word_at (nodes_of t) node 4 ≡ suc place = h.numbered.numbers node nl ∙ ap next_number is in
     let below : place < length names = place_below (tree.name node) names place is in
     absurd (elim out [ inl none ↦ omega (arith, none, word) | inr large ↦ omega (arith, large, word, below, h.count) ])
 
-pub no_number : (t : Kept) (tree : Tree) (node known : ℕ) (names : List (List ℕ)) → Knows t tree known names → node < (nodes_of t).count
+pub no_number : (t : TablesModel) (tree : Tree) (node known : ℕ) (names : List (List ℕ)) → Knows t tree known names → node < (nodes_of t).count
     → (word_at (nodes_of t) node 4 ≡ 0) ⊎ (known < word_at (nodes_of t) node 4) → place_of (tree.name node) names ≡ None
 no_number t tree node known names h nl out = none_by (place_of (tree.name node) names) t tree node known names refl h nl out

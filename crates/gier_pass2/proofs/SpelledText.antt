@@ -17,7 +17,7 @@ use Rattle.gier_symbol.specs.Spans.{string_bytes}
 use Rattle.gier_symbol.specs.Tags.{number_of, name_of}
 use Rattle.gier_symbol.specs.Words.{word_symbols, tag_named, comment_word, word_named, word_ended, word_of, word_byte, is_quote}
 use Rattle.gier_pass2.specs.Spelled.{IsSpelled, ReadsSpelled}
-use Rattle.gier_pass2.proofs.Cutting.{and_both}
+use Rattle.gier_pass2.proofs.RunSplitting.{and_both}
 
 none_spelled : All IsSpelled []
 none_spelled = λ k d lt. absurd (omega arith)

@@ -5,15 +5,15 @@ use Rattle.std.specs.List.{list_all}
 use Rattle.std.proofs.lemmas.Bool.Decides.{nat_tests}
 use Rattle.gier_symbol.specs.declared.symbol.Symbol.{Symbol}
 use Rattle.gier_symbol.specs.declared.tag.Tag.TheVariants.{Letter}
-use Rattle.gier_symbol.specs.Assembled.{byte_of, place_of, known_by, standard_names}
+use Rattle.gier_symbol.specs.Assembly.{byte_of, place_of, known_by, standard_names}
 use Rattle.gier_symbol.specs.Bytes.{is_letter}
 use Rattle.gier_symbol.specs.Tags.{number_of}
-use Rattle.gier_text.specs.Kept.{Kept, with_list, with_at}
-use Rattle.gier_text.specs.Lists.{TableList, pushed, list_at}
+use Rattle.gier_text.specs.TablesModel.{TablesModel, with_list, with_at}
+use Rattle.gier_text.specs.Lists.{TableList, with_entry, list_at}
 use Rattle.gier_pass2.specs.Spelled.{IsSign}
 use Rattle.gier_pass2.specs.Standard.{standard_bytes, names_in, Spells}
 use Rattle.gier_pass2.specs.Tree.{Tree, IsTree, IsNumbered, IsNumberOf, Knows, Names, nodes_of}
-use Rattle.gier_pass2.proofs.Cutting.{and_both}
+use Rattle.gier_pass2.proofs.RunSplitting.{and_both}
 
 -- a letter of a standard name
 abbrev pub letter : ℕ → Symbol
@@ -22,7 +22,7 @@ letter byte = record { tag = number_of Letter; value = byte; line = 0 }
 pub all_standard : names_in standard_bytes [] [] ≡ standard_names
 all_standard = refl
 
-pub spells_space : (t new : Kept) (known more node byte number : ℕ) (bytes : List ℕ) → byte ≡ 32
+pub spells_space : (t new : TablesModel) (known more node byte number : ℕ) (bytes : List ℕ) → byte ≡ 32
     → (h : Spells t known node (byte ∷ bytes)) → ((tree : Tree) → (names : List (List ℕ)) → Knows t tree known names
     → IsNumberOf new tree more names (tree.name node) number) → Spells new more 0 bytes
 spells_space t new known more node byte number bytes is h numbers =
@@ -39,7 +39,7 @@ spells_space t new known more node byte number bytes is h numbers =
 letter_sign : (byte : ℕ) → is_letter byte ≡ true → IsSign (record { tag = number_of Letter; value = byte; line = 0 })
 letter_sign byte h = record { kind = refl; spelled = record { letter = λ is. h; digit = λ is. cc } }
 
-pub spells_letter : (t new : Kept) (known node next byte : ℕ) (bytes : List ℕ) (s : Symbol) → byte ≢ 32 → is_letter byte ≡ true
+pub spells_letter : (t new : TablesModel) (known node next byte : ℕ) (bytes : List ℕ) (s : Symbol) → byte ≢ 32 → is_letter byte ≡ true
     → s ≡ record { tag = number_of Letter; value = byte; line = 0 } → (h : Spells t known node (byte ∷ bytes))
     → ((tree : Tree) → (k : ℕ) → (names : List (List ℕ)) → Knows t tree k names → IsSign s
     → Names new k names next (tree.name node ++ byte_of s ∷ [])) → Spells new known next bytes
@@ -106,7 +106,7 @@ numbers_alone capacity = record {
 }
 
 -- the root alone, where no name is known
-pub spells_none : (t : Kept) (capacity : ℕ) → nodes_of t ≡ record
+pub spells_none : (t : TablesModel) (capacity : ℕ) → nodes_of t ≡ record
     { width = 5; capacity = capacity; count = 1; words = 0 ∷ 0 ∷ 0 ∷ 0 ∷ 0 ∷ [] } → Spells t 0 0 standard_bytes
 unfolding none_read
 spells_none t capacity is = record {
@@ -125,19 +125,19 @@ spells_none t capacity is = record {
   rest = all_standard;
 }
 
-standard_at : (t : Kept) (known node i byte : ℕ) → i < length standard_bytes → byte ≡ get_or standard_bytes i 0
+standard_at : (t : TablesModel) (known node i byte : ℕ) → i < length standard_bytes → byte ≡ get_or standard_bytes i 0
     → Spells t known node (drop i standard_bytes) → Spells t known node (byte ∷ drop (i + 1) standard_bytes)
 standard_at t known node i byte lt is h = subst (λ (l : List ℕ). Spells t known node l)
     (drop_at standard_bytes i lt ∙ ap (λ (b : ℕ). b ∷ drop (i + 1) standard_bytes) (sym is)) h
 
-pub space_at : (t new : Kept) (known more node byte number i : ℕ) → byte ≡ 32
+pub space_at : (t new : TablesModel) (known more node byte number i : ℕ) → byte ≡ 32
     → ((tree : Tree) → (names : List (List ℕ)) → Knows t tree known names → IsNumberOf new tree more names (tree.name node) number)
     → i < length standard_bytes → byte ≡ get_or standard_bytes i 0 → Spells t known node (drop i standard_bytes)
     → Spells new more 0 (drop (i + 1) standard_bytes)
 space_at t new known more node byte number i space numbers lt is h = spells_space t new known more node byte number
     (drop (i + 1) standard_bytes) space (standard_at t known node i byte lt is h) numbers
 
-pub letter_at : (t new : Kept) (known node next byte i : ℕ) (s : Symbol) → byte ≢ 32
+pub letter_at : (t new : TablesModel) (known node next byte i : ℕ) (s : Symbol) → byte ≢ 32
     → s ≡ record { tag = number_of Letter; value = byte; line = 0 }
     → ((tree : Tree) → (k : ℕ) → (names : List (List ℕ)) → Knows t tree k names → IsSign s
     → Names new k names next (tree.name node ++ byte_of s ∷ []))
@@ -154,7 +154,7 @@ drop_all (x ∷ xs) zero le = absurd (omega arith)
 drop_all (x ∷ xs) (suc i) le = drop_all xs i (omega arith)
 
 -- all are known behind the last byte
-pub spells_all : (t : Kept) (known node i : ℕ) → length standard_bytes ≤ i → Spells t known node (drop i standard_bytes)
+pub spells_all : (t : TablesModel) (known node i : ℕ) → length standard_bytes ≤ i → Spells t known node (drop i standard_bytes)
     → Names t known standard_names 0 []
 spells_all t known node i le h =
     let none = drop_all standard_bytes i le in
@@ -163,13 +163,13 @@ spells_all t known node i le h =
     (record { tree = h.here.tree; knows = h.here.knows; named = h.here.knows.fits.root })
 
 one_list : (lists : List TableList) (list : TableList) (entry : List ℕ) → length lists ≡ 0
-    → list_at (slice_set (lists ++ list ∷ []) 0 (pushed (list_at (lists ++ list ∷ []) 0) entry)) 0 ≡ pushed list entry
+    → list_at (slice_set (lists ++ list ∷ []) 0 (with_entry (list_at (lists ++ list ∷ []) 0) entry)) 0 ≡ with_entry list entry
 one_list [] list entry none = refl
 one_list (x ∷ lists) list entry none = absurd (omega arith)
 
-pub planted : (t opened new : Kept) (capacity : ℕ) → length t.lists ≡ 0 → opened ≡ with_list t 5 capacity
-    → new ≡ with_at opened 0 (pushed (list_at opened.lists 0) (0 ∷ 0 ∷ 0 ∷ 0 ∷ 0 ∷ [])) → Spells new 0 0 standard_bytes
+pub planted : (t opened new : TablesModel) (capacity : ℕ) → length t.lists ≡ 0 → opened ≡ with_list t 5 capacity
+    → new ≡ with_at opened 0 (with_entry (list_at opened.lists 0) (0 ∷ 0 ∷ 0 ∷ 0 ∷ 0 ∷ [])) → Spells new 0 0 standard_bytes
 planted t opened new capacity none first push =
-    spells_none new capacity (ap nodes_of push ∙ ap (λ (k : Kept). nodes_of
-    (with_at k 0 (pushed (list_at k.lists 0) (0 ∷ 0 ∷ 0 ∷ 0 ∷ 0 ∷ [])))) first
+    spells_none new capacity (ap nodes_of push ∙ ap (λ (k : TablesModel). nodes_of
+    (with_at k 0 (with_entry (list_at k.lists 0) (0 ∷ 0 ∷ 0 ∷ 0 ∷ 0 ∷ [])))) first
     ∙ one_list t.lists (record { width = 5; capacity = capacity; count = 0; words = [] }) (0 ∷ 0 ∷ 0 ∷ 0 ∷ 0 ∷ []) none)

@@ -1,7 +1,7 @@
 -- Identifiers are told apart by all their letters and digits (Report 2.4).
 use Rattle.std.specs.Prelude.{◌≡◌, ◌<◌, ◌⊎◌, ◌∷◌, [], ℕ, List, length, slice_index_or}
 use Rattle.gier_symbol.specs.declared.symbol.Symbol.{Symbol}
-use Rattle.gier_symbol.specs.Assembled.{AName, Piece, pieces, runs, standard_names}
+use Rattle.gier_symbol.specs.Assembly.{AName, Piece, pieces, runs, standard_names}
 
 -- an identifier of these characters stands there with this number
 pub record IsNamed (characters : List ℕ) (number : ℕ) (piece : Piece) : Type 0 where

@@ -5,7 +5,7 @@ use Rattle.gier_symbol.specs.declared.tag.Tag.TheVariants.{TextEnd}
 use Rattle.gier_symbol.specs.Symbols.{IsSymbol}
 use Rattle.gier_symbol.specs.Tags.{number_of}
 use Rattle.gier_symbol.specs.Texts.{stands_in}
-use Rattle.gier_text.specs.Growth.{is_numbered}
+use Rattle.gier_text.specs.Potential.{is_numbered}
 
 -- a symbol of text 2 of a program of so many bytes
 pub record IsWritable (bytes : ℕ) (s : Symbol) : Type 0 where

@@ -4,13 +4,13 @@ use Rattle.std.specs.Prelude.{◌≡◌, ◌<◌, ◌^◌, ◌++◌, ◌∷◌, 
 use Rattle.std.specs.List.{list_all}
 use Rattle.gier_symbol.specs.declared.symbol.Symbol.{Symbol}
 use Rattle.gier_symbol.specs.declared.tag.Tag.TheVariants.{Letter, Digit}
-use Rattle.gier_symbol.specs.Assembled.{Run as RunOf, AName, ANumber, ASymbol, is, is_letter_or_digit, byte_of, decimal, runs, number_faults, standard_names, known_by, place_of}
+use Rattle.gier_symbol.specs.Assembly.{Lexeme as RunOf, AName, ANumber, ASymbol, is, is_letter_or_digit, byte_of, decimal, runs, number_faults, standard_names, known_by, place_of}
 use Rattle.gier_symbol.specs.Bytes.{is_letter}
 use Rattle.gier_text.specs.declared.fault.Fault.{Fault}
-use Rattle.gier_text.specs.Kept.{Kept}
-use Rattle.gier_pass2.specs.declared.runs.Run.{Run}
-use Rattle.gier_pass2.specs.declared.runs.Run.TheVariants.{Nothing, Name, Number}
-use Rattle.gier_text.specs.Faults.{named, without_position}
+use Rattle.gier_text.specs.TablesModel.{TablesModel}
+use Rattle.gier_pass2.specs.declared.runs.Lexeme.{Lexeme}
+use Rattle.gier_pass2.specs.declared.runs.Lexeme.TheVariants.{Nothing, Name, Number}
+use Rattle.gier_text.specs.Faults.{as_fault, without_position}
 use Rattle.gier_pass2.specs.Tree.{Tree, Knows}
 
 -- the names that are known after some runs
@@ -24,8 +24,8 @@ abbrev pub names_of : List RunOf → List (List ℕ)
 names_of done = names_after done standard_names
 
 -- what a symbol ends at once, and what it begins, where it doesn't go on with a run
-abbrev pub alone : Symbol → List RunOf
-alone s = if is_letter_or_digit s then [] else ASymbol s ∷ []
+abbrev pub run_ended : Symbol → List RunOf
+run_ended s = if is_letter_or_digit s then [] else ASymbol s ∷ []
 
 abbrev pub begun_by : Symbol → List Symbol
 begun_by s = if is_letter_or_digit s then s ∷ [] else []
@@ -55,30 +55,30 @@ pub record IsNumber (total at_line : ℕ) (pending : List Symbol) : Type 0 where
   pub value : total ≡ min (decimal 0 pending) (2 ^ 39)
   pub line : first.line ≡ at_line
 
-abbrev pub IsRunOf : Tree → Run → List Symbol → Type 0
+abbrev pub IsRunOf : Tree → Lexeme → List Symbol → Type 0
 IsRunOf tree Nothing pending = pending ≡ []
 IsRunOf tree (Name node line plain) pending = IsName tree node line plain pending
 IsRunOf tree (Number value line position) pending = IsNumber value line pending
 
 -- how many symbols came before the number that is read, and before what comes next where none is read
-abbrev pub begin_of : Run → ℕ → ℕ
+abbrev pub begin_of : Lexeme → ℕ → ℕ
 begin_of Nothing read = read
 begin_of (Name node line plain) read = read
 begin_of (Number value line position) read = position
 
-abbrev pub HasBegun : Run → ℕ → Type 0
+abbrev pub HasBegun : Lexeme → ℕ → Type 0
 HasBegun Nothing read = Unit {0}
 HasBegun (Name node line plain) read = Unit {0}
 HasBegun (Number value line position) read = position < read
 
 -- the faults are those of the runs that have ended, and have places before the run that is read
-pub record HasFaultsOf (faults : List Fault) (done : List RunOf) (run : Run) (read : ℕ) : Type 0 where
-  pub same : map without_position faults ≡ map named (number_faults done)
+pub record HasFaultsOf (faults : List Fault) (done : List RunOf) (run : Lexeme) (read : ℕ) : Type 0 where
+  pub same : map without_position faults ≡ map as_fault (number_faults done)
   pub before : All (λ fault. fault.position < begin_of run read) faults
   pub begun : HasBegun run read
 
 -- these runs have ended, and one is read, of these symbols
-pub record IsReading (t : Kept) (known : ℕ) (current : Run) (read : ℕ) (done : List RunOf) (pending : List Symbol) : Type 0 where
+pub record IsReading (t : TablesModel) (known : ℕ) (current : Lexeme) (read : ℕ) (done : List RunOf) (pending : List Symbol) : Type 0 where
   pub tree : Tree
   pub knows : Knows t tree known (names_of done)
   pub run : IsRunOf tree current pending

@@ -2,7 +2,7 @@
 use Rattle.std.specs.Prelude.{◌≡◌, ◌<◌, ℕ, true, List, All}
 use Rattle.gier_symbol.specs.declared.symbol.Symbol.{Symbol}
 use Rattle.gier_symbol.specs.declared.tag.Tag.TheVariants.{Letter, Digit}
-use Rattle.gier_symbol.specs.Assembled.{is, is_letter_or_digit}
+use Rattle.gier_symbol.specs.Assembly.{is, is_letter_or_digit}
 use Rattle.gier_symbol.specs.Bytes.{is_letter}
 use Rattle.gier_symbol.specs.Reading.{symbols_of}
 

@@ -1,7 +1,7 @@
 -- The standard names, as they are read letter by letter, with a space behind each.
 use Rattle.std.specs.Prelude.{◌≡◌, ◌==◌, ◌++◌, ◌∷◌, [], ℕ, Bool, true, false, List, codes}
-use Rattle.gier_symbol.specs.Assembled.{place_of, known_by, standard_names}
-use Rattle.gier_text.specs.Kept.{Kept}
+use Rattle.gier_symbol.specs.Assembly.{place_of, known_by, standard_names}
+use Rattle.gier_text.specs.TablesModel.{TablesModel}
 use Rattle.gier_pass2.specs.Tree.{Names}
 
 abbrev pub standard_bytes : List ℕ
@@ -18,7 +18,7 @@ names_in [] word names = names
 names_in (byte ∷ bytes) word names = names_by (byte == 32) byte word names (names_in bytes)
 
 -- the node is that of the letters so far, and with the names that these bytes add the standard ones are known
-pub record Spells (t : Kept) (known node : ℕ) (bytes : List ℕ) : Type 0 where
+pub record Spells (t : TablesModel) (known node : ℕ) (bytes : List ℕ) : Type 0 where
   pub names : List (List ℕ)
   pub word : List ℕ
   pub here : Names t known names node word

@@ -1,12 +1,12 @@
 -- The names that the nodes stand for, and their numbers.
 use Rattle.std.specs.Prelude.{◌==◌, ◌&&◌, Bool, ◌≡◌, ◌≢◌, ◌<◌, ◌*◌, ◌++◌, ◌∷◌, [], ℕ, suc, List, length, Option, None, Some}
 use Rattle.gier_symbol.specs.declared.symbol.Symbol.{Symbol}
-use Rattle.gier_symbol.specs.Assembled.{byte_of, place_of, known_by, number_by}
-use Rattle.gier_text.specs.Kept.{Kept}
-use Rattle.gier_text.specs.Lists.{TableList, list_at, word_at, pushed, with_word}
+use Rattle.gier_symbol.specs.Assembly.{byte_of, place_of, known_by, number_by}
+use Rattle.gier_text.specs.TablesModel.{TablesModel}
+use Rattle.gier_text.specs.Lists.{TableList, list_at, word_at, with_entry, with_word}
 use Rattle.gier_pass2.specs.Spelled.{IsSign, IsSame}
 
-abbrev pub nodes_of : Kept → TableList
+abbrev pub nodes_of : TablesModel → TableList
 nodes_of t = list_at t.lists 0
 
 -- the letter or digit that a node adds to the name of its parent
@@ -15,7 +15,7 @@ sign_at nodes n = record { tag = word_at nodes n 0; value = word_at nodes n 1; l
 
 -- the nodes with one more, the last child of another
 abbrev pub child_added : TableList → ℕ → Symbol → TableList
-child_added nodes node s = with_word (pushed nodes (s.tag ∷ s.value ∷ word_at nodes node 3 ∷ 0 ∷ 0 ∷ [])) node 3 nodes.count
+child_added nodes node s = with_word (with_entry nodes (s.tag ∷ s.value ∷ word_at nodes node 3 ∷ 0 ∷ 0 ∷ [])) node 3 nodes.count
 
 abbrev pub is_same : Symbol → Symbol → Bool
 is_same a b = a.tag == b.tag && a.value == b.value
@@ -49,28 +49,28 @@ pub record IsChild (nodes : TableList) (tree : Tree) (node : ℕ) (s : Symbol) (
   pub none : at ≡ 0 → (n : ℕ) → 0 < n → n < nodes.count → tree.parent n ≡ node → IsSame (sign_at nodes n) s → ⊥
 
 -- a number increased by 1, or 0 where there is none
-abbrev pub counted : Option ℕ → ℕ
-counted None = 0
-counted (Some place) = suc place
+abbrev pub next_number : Option ℕ → ℕ
+next_number None = 0
+next_number (Some place) = suc place
 
 -- each name that is known has its number at its node, and has a node
 pub record IsNumbered (nodes : TableList) (tree : Tree) (names : List (List ℕ)) : Type 0 where
-  pub numbers : (n : ℕ) → n < nodes.count → word_at nodes n 4 ≡ counted (place_of (tree.name n) names)
+  pub numbers : (n : ℕ) → n < nodes.count → word_at nodes n 4 ≡ next_number (place_of (tree.name n) names)
   pub unknown : (name : List ℕ) → ((n : ℕ) → n < nodes.count → tree.name n ≢ name) → place_of name names ≡ None
 
 -- these names are known, so many
-pub record Knows (t : Kept) (tree : Tree) (known : ℕ) (names : List (List ℕ)) : Type 0 where
+pub record Knows (t : TablesModel) (tree : Tree) (known : ℕ) (names : List (List ℕ)) : Type 0 where
   pub fits : IsTree (nodes_of t) tree
   pub numbered : IsNumbered (nodes_of t) tree names
   pub count : known ≡ length names
 
 -- the same names are known, and a node stands for this one
-pub record Names (t : Kept) (known : ℕ) (names : List (List ℕ)) (node : ℕ) (name : List ℕ) : Type 0 where
+pub record Names (t : TablesModel) (known : ℕ) (names : List (List ℕ)) (node : ℕ) (name : List ℕ) : Type 0 where
   pub tree : Tree
   pub knows : Knows t tree known names
   pub named : tree.name node ≡ name
 
 -- the name has this number, which is the next one where it had none
-pub record IsNumberOf (t : Kept) (tree : Tree) (known : ℕ) (names : List (List ℕ)) (name : List ℕ) (number : ℕ) : Type 0 where
+pub record IsNumberOf (t : TablesModel) (tree : Tree) (known : ℕ) (names : List (List ℕ)) (name : List ℕ) (number : ℕ) : Type 0 where
   pub knows : Knows t tree known (known_by (place_of name names) name names)
   pub value : number ≡ number_by (place_of name names) names

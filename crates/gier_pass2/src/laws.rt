@@ -3,7 +3,7 @@ ghost use Rattle.gier_pass2.specs.Characters.{AreCharacters};
 ghost use Rattle.gier_pass2.specs.Spelled.{ReadsSpelled};
 
 /// Identifiers have the same number just where they have the same letters and digits, and a standard one has its own.
-#[tactic(auto, using(crate::proofs::Apart::told_apart))]
+#[tactic(auto, using(crate::proofs::NamesApart::told_apart))]
 pub fn law_characters()
     ensures { AreCharacters }
 {}

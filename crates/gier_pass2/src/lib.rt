@@ -2,7 +2,7 @@
 #![tactic(auto)]
 
 mod commas;
-mod few;
+mod token_buffer;
 mod laws;
 mod names;
 mod pass;

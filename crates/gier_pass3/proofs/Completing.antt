@@ -8,7 +8,7 @@ use Rattle.gier_tree.specs.Trees.{Program}
 use Rattle.gier_tree.specs.Signs.{Sign, SName, STextEnd, SBegin, SComma, SType, SColon, SSemicolon, SBecomes, SRightParenthesis, SLeftBracket, SThen, SElse, SUntil, sign_of}
 use Rattle.gier_tree.specs.Wanted.{Item, Want, MayNot, WantType, WantFurther, WantProgram}
 use Rattle.gier_tree.specs.Taking.{Act, Refuse, Pass, Push, act, want_by, same_sign}
-use Rattle.gier_tree.specs.Structure.{next_of, step, step_sign, written}
+use Rattle.gier_tree.specs.Structure.{next_of, step, step_sign, program_spelled}
 use Rattle.gier_pass3.proofs.Bare.{both}
 use Rattle.gier_pass3.proofs.ItemWords.{some_same}
 use Rattle.gier_pass3.proofs.Runs.{run, then_run, run_append, program_of}
@@ -140,7 +140,7 @@ run_fine (s ∷ w) st end f h = run_on (step s st) w end (λ next e. step_fine (
 pub record Completion (w : List Symbol) : Type 0 where
   pub rest : List Symbol
   pub program : Program
-  pub written : written (w ++ rest) ≡ Some program
+  pub written : program_spelled (w ++ rest) ≡ Some program
 
 pub completion_of : (w : List Symbol) (end : List Item) → run w (WantProgram ∷ []) ≡ Some end → Completion w
 completion_of w end runs =

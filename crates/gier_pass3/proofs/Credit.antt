@@ -4,7 +4,7 @@ use Rattle.std.proofs.lemmas.List.{get_or_append_left, places}
 use Rattle.std.proofs.Math.Seq.{get_or-append_right}
 use Rattle.std.specs.Prelude.{Option, None, Some, IfSome}
 use Rattle.gier_pass3.specs.declared.stack.Wanted.{Wanted}
-use Rattle.gier_text.specs.Lists.{TableList, word_at, pushed, cut_to}
+use Rattle.gier_text.specs.Lists.{TableList, word_at, with_entry, cut_to}
 use Rattle.gier_pass3.specs.declared.item.Item.{Item}
 use Rattle.gier_pass3.specs.Items.{credit_at, credit_of, credits, credit_until, credit_in}
 
@@ -12,17 +12,17 @@ until_same : (a b : TableList) (n : ℕ) → ((k : ℕ) → k < n → word_at a 
 until_same a b zero same = refl
 until_same a b (suc n) same = rw (until_same a b n (λ k lt. same k (omega arith)), same n (omega arith)) refl
 
-kept_word : (list : TableList) (word k : ℕ) → list.width ≡ 1 → length list.words ≡ list.count → k < list.count → word_at (pushed list (word ∷ [])) k 0 ≡ word_at list k 0
+kept_word : (list : TableList) (word k : ℕ) → list.width ≡ 1 → length list.words ≡ list.count → k < list.count → word_at (with_entry list (word ∷ [])) k 0 ≡ word_at list k 0
 kept_word list word k wide long lt = get_or_append_left list.words (word ∷ []) 0 (list.width * k + 0) (rw wide (omega arith))
 
-put_word : (list : TableList) (word : ℕ) → list.width ≡ 1 → length list.words ≡ list.count → word_at (pushed list (word ∷ [])) list.count 0 ≡ word
+put_word : (list : TableList) (word : ℕ) → list.width ≡ 1 → length list.words ≡ list.count → word_at (with_entry list (word ∷ [])) list.count 0 ≡ word
 put_word list word wide long =
     let place : (list.width * list.count + 0) - length list.words ≡ 0 = rw (wide, long) (omega arith) in
     get_or-append_right list.words (word ∷ []) (list.width * list.count + 0) 0 (rw wide (omega arith)) ∙ ap (λ (p : ℕ). get_or (word ∷ []) p 0) place
 
-pub credit_pushed : (list : TableList) (word : ℕ) → list.width ≡ 1 → length list.words ≡ list.count → credit_in (pushed list (word ∷ [])) ≡ credit_in list + credit_at (word % 256)
+pub credit_pushed : (list : TableList) (word : ℕ) → list.width ≡ 1 → length list.words ≡ list.count → credit_in (with_entry list (word ∷ [])) ≡ credit_in list + credit_at (word % 256)
 credit_pushed list word wide long =
-    rw (add-one, until_same (pushed list (word ∷ [])) list list.count (λ k lt. kept_word list word k wide long lt), put_word list word wide long) refl
+    rw (add-one, until_same (with_entry list (word ∷ [])) list list.count (λ k lt. kept_word list word k wide long lt), put_word list word wide long) refl
 
 cut_word : (list : TableList) (n k : ℕ) → list.width ≡ 1 → k < n → word_at (cut_to list n) k 0 ≡ word_at list k 0
 cut_word list n k wide lt = rw wide (search (rules, places))

@@ -6,7 +6,7 @@ use Rattle.gier_symbol.specs.declared.symbol.Symbol.{Symbol}
 use Rattle.gier_tree.specs.Trees.{Program}
 use Rattle.gier_tree.specs.Signs.{STextEnd, sign_of}
 use Rattle.gier_tree.specs.Wanted.{Item, WantProgram}
-use Rattle.gier_tree.specs.Structure.{IsPrefix, IsStructureFault, step, structure_fault, written}
+use Rattle.gier_tree.specs.Structure.{IsPrefix, IsStructureFault, step, structure_fault, program_spelled}
 use Rattle.gier_pass3.proofs.Runs.{run, then_run, run_append, none_by, some_by, refusal, refused_at, program_of, run_program, begun}
 use Rattle.gier_pass3.proofs.Completing.{completion_of, run_end}
 use Rattle.gier_pass3.proofs.Spelled.{written_spelled}
@@ -58,7 +58,7 @@ fault_found w line f =
     let none = none_taken (step f.wrong end.0) f.before f.wrong end.0 refl end.1 f.refused in
     ap structure_fault f.whole ∙ refused_at f.before f.behind f.wrong (WantProgram ∷ []) end.0 end.1 none ∙ ap Some (sym f.stands)
 
-pub program_in : (before : List Symbol) (end : Symbol) → sign_of end ≡ STextEnd → structure_fault (before ++ end ∷ []) ≡ None → (t : Program) × (written (before ++ end ∷ []) ≡ Some t)
+pub program_in : (before : List Symbol) (end : Symbol) → sign_of end ≡ STextEnd → structure_fault (before ++ end ∷ []) ≡ None → (t : Program) × (program_spelled (before ++ end ∷ []) ≡ Some t)
 program_in before end e h =
     let last = some_by (before ++ end ∷ []) (WantProgram ∷ []) h in
     program_of (before ++ end ∷ []) (last.1 ∙ ap Some (run_end before end last.0 e last.1))

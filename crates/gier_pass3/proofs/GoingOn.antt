@@ -4,10 +4,10 @@ use Rattle.std.specs.Prelude.{All, IsTrue, not, OnOk, Result, Ok, Err}
 use Rattle.std.proofs.lemmas.List.{get_or-set_same, get_or-set_other, get_or_append_left, length-set}
 use Rattle.std.proofs.lemmas.List.Elements.{All-append}
 use Rattle.gier_symbol.specs.declared.symbol.Symbol.{Symbol}
-use Rattle.gier_text.specs.Growth.{weight, is_numbered, IsLight}
-use Rattle.gier_text.specs.Kept.{Kept, with_at}
+use Rattle.gier_text.specs.Potential.{potential, is_numbered, IsWithinPotential}
+use Rattle.gier_text.specs.TablesModel.{TablesModel, with_at}
 use Rattle.gier_text.specs.Lists.{no_list, cut_to}
-use Rattle.gier_text.specs.Outbox.{waiting}
+use Rattle.gier_text.specs.Outbox.{outbox_symbols}
 use Rattle.gier_text.specs.Passes.{HasLess}
 use Rattle.gier_text.specs.View.{View}
 use Rattle.gier_pass3.specs.declared.pass.Pass3.{Pass3}
@@ -27,22 +27,22 @@ both_ok (Ok x) P Q R f p q = f p q
 both_ok (Err e) P Q R f p q = tt
 
 -- the list of symbols that are ready, emptied
-abbrev emptied : Kept → Kept
+abbrev emptied : TablesModel → TablesModel
 emptied u = with_at u 2 (cut_to (ready_in u) 0)
 
-ready_after : (u : Kept) → HasLists u → ready_in (emptied u) ≡ cut_to (ready_in u) 0
+ready_after : (u : TablesModel) → HasLists u → ready_in (emptied u) ≡ cut_to (ready_in u) 0
 ready_after u h = get_or-set_same u.lists 2 (cut_to (ready_in u) 0) no_list (omega (arith, h.lists))
 
-stack_after : (u : Kept) → HasLists u → stack_in (emptied u) ≡ stack_in u
+stack_after : (u : TablesModel) → HasLists u → stack_in (emptied u) ≡ stack_in u
 stack_after u h = get_or-set_other u.lists 2 0 (cut_to (ready_in u) 0) no_list (λ e. absurd (omega (arith, e)))
 
-held_after : (u : Kept) → HasLists u → held_in (emptied u) ≡ held_in u
+held_after : (u : TablesModel) → HasLists u → held_in (emptied u) ≡ held_in u
 held_after u h = get_or-set_other u.lists 2 1 (cut_to (ready_in u) 0) no_list (λ e. absurd (omega (arith, e)))
 
-none_after : (u : Kept) → HasLists u → ready_by (emptied u) ≡ []
-none_after u h = ap waiting (ready_after u h)
+none_after : (u : TablesModel) → HasLists u → ready_by (emptied u) ≡ []
+none_after u h = ap outbox_symbols (ready_after u h)
 
-lists_after : (u : Kept) → HasLists u → HasLists (emptied u)
+lists_after : (u : TablesModel) → HasLists u → HasLists (emptied u)
 lists_after u h = record {
   lists = length-set u.lists 2 (cut_to (ready_in u) 0) ∙ h.lists;
   stack = ap (λ l. l.width) (stack_after u h) ∙ h.stack;
@@ -52,7 +52,7 @@ lists_after u h = record {
   all_ready = rw (ready_after u h) refl;
 }
 
-holds_after : (pass : Pass3) (u : Kept) → Holds pass u → Holds pass (emptied u)
+holds_after : (pass : Pass3) (u : TablesModel) → Holds pass u → Holds pass (emptied u)
 holds_after pass u h = record {
   lists = lists_after u h.lists;
   stack_room = ap (λ l. l.capacity) (stack_after u h.lists) ∙ h.stack_room;
@@ -64,7 +64,7 @@ holds_after pass u h = record {
   line = h.line;
 }
 
-is_ready_after : (pass : Pass3) (u : Kept) → IsReady pass u → IsReady pass (emptied u)
+is_ready_after : (pass : Pass3) (u : TablesModel) → IsReady pass u → IsReady pass (emptied u)
 is_ready_after pass u h = record {
   holds = holds_after pass u h.holds;
   few = h.few;
@@ -74,8 +74,8 @@ is_ready_after pass u h = record {
   small = h.small;
 }
 
-load_after : (pass : Pass3) (u : Kept) → HasLists u → load pass (emptied u) + weight 3 (ready_by u) ≡ load pass u
-load_after pass u h = omega (arith, ap credit_in (stack_after u h), ap (λ l. weight 3 (waiting l)) (held_after u h), ap (λ l. weight 3 l) (none_after u h))
+load_after : (pass : Pass3) (u : TablesModel) → HasLists u → load pass (emptied u) + potential 3 (ready_by u) ≡ load pass u
+load_after pass u h = omega (arith, ap credit_in (stack_after u h), ap (λ l. potential 3 (outbox_symbols l)) (held_after u h), ap (λ l. potential 3 l) (none_after u h))
 
 same_fit : (old new : ℕ) (list : List Symbol) → new ≡ old → All (IsFit 3 old) list → All (IsFit 3 new) list
 same_fit old new list e h = rw e h
@@ -96,17 +96,17 @@ bare_last : (read : List Symbol) (s : Symbol) → All IsBare (read ++ s ∷ []) 
 bare_last read s all = subst IsBare (last_of read s) (all (length read) s (omega (arith, length-append read (s ∷ []))))
 
 -- what is known of the fault when a symbol was taken
-pub record Sees (pass new : Pass3) (t u : Kept) (s : Symbol) : Type 0 where
+pub record Sees (pass new : Pass3) (t u : TablesModel) (s : Symbol) : Type 0 where
   pub stays : pass.stopped ≡ true → (new.stopped ≡ true) × (u.faults ≡ t.faults)
   pub told : pass.stopped ≡ false → u.faults ≡ faults_of new.stopped pass.read s.line
   pub follows : pass.stopped ≡ false → IsBare s → HasItems t → Follows new.stopped s t u
 
-found_after : (pass new : Pass3) (t u : Kept) (read : List Symbol) (s : Symbol) → pass.read ≡ length read → HasLists u → Sees pass new t u s → (All IsBare read → HasFound pass.stopped t read) → All IsBare (read ++ s ∷ []) → HasFound new.stopped (emptied u) (read ++ s ∷ [])
+found_after : (pass new : Pass3) (t u : TablesModel) (read : List Symbol) (s : Symbol) → pass.read ≡ length read → HasLists u → Sees pass new t u s → (All IsBare read → HasFound pass.stopped t read) → All IsBare (read ++ s ∷ []) → HasFound new.stopped (emptied u) (read ++ s ∷ [])
 found_after pass new t u read s taken lists sees found bare =
     let told = λ (going : pass.stopped ≡ false). sees.told going ∙ ap (λ n. faults_of new.stopped n s.line) taken in
     found_kept new.stopped u (emptied u) (read ++ s ∷ []) (stack_after u lists) refl (found_more pass.stopped new.stopped t u read s (found (bare_before read s bare)) sees.stays told (λ going. sees.follows going (bare_last read s bare)))
 
-pub stands_more : (pass new : Pass3) (t u : Kept) (read written : List Symbol) (s : Symbol) → Stands pass t read written → Steps pass new t u → Sees pass new t u s → Stands new (emptied u) (read ++ s ∷ []) (written ++ ready_by u)
+pub stands_more : (pass new : Pass3) (t u : TablesModel) (read written : List Symbol) (s : Symbol) → Stands pass t read written → Steps pass new t u → Sees pass new t u s → Stands new (emptied u) (read ++ s ∷ []) (written ++ ready_by u)
 stands_more pass new t u read written s h steps sees = record {
   ready = is_ready_after new u steps.ready;
   none_ready = none_after u steps.ready.holds.lists;
@@ -116,7 +116,7 @@ stands_more pass new t u read written s h steps sees = record {
   found = found_after pass new t u read s h.taken steps.ready.holds.lists sees h.found;
 }
 
-pub few_more : (pass new : Pass3) (t u : Kept) (read written : List Symbol) → Stands pass t read written → Steps pass new t u → pass.read ≤ pass.bytes → length written + length (ready_by u) ≤ 8 * pass.bytes + 10
+pub few_more : (pass new : Pass3) (t u : TablesModel) (read written : List Symbol) → Stands pass t read written → Steps pass new t u → pass.read ≤ pass.bytes → length written + length (ready_by u) ≤ 8 * pass.bytes + 10
 few_more pass new t u read written h steps more = omega (arith, h.light, h.taken, steps.load, length_weight written, length_weight (ready_by u), more)
 
 pub numbered_at : (bytes : ℕ) (read rest : List Symbol) (s : Symbol) → All (λ s. IsTrue (is_numbered 2 bytes s)) (read ++ (s ∷ []) ++ rest) → IsTrue (is_numbered 2 bytes s)
@@ -130,7 +130,7 @@ at_most_one : (stopped : Bool) → stops stopped ≤ 1
 at_most_one true = omega arith
 at_most_one false = omega arith
 
-all_light : (pass : Pass3) (t : Kept) (read written : List Symbol) → Stands pass t read written → IsLight 3 pass.bytes (written ++ ready_by t)
+all_light : (pass : Pass3) (t : TablesModel) (read written : List Symbol) → Stands pass t read written → IsWithinPotential 3 pass.bytes (written ++ ready_by t)
 all_light pass t read written h =
     let fit = All-append (IsFit 3 pass.bytes) written (ready_by t) h.letters h.ready.holds.ready in
     record {
@@ -139,7 +139,7 @@ all_light pass t read written h =
       light = omega (arith, h.light, h.taken, h.ready.within, weight_append written (ready_by t));
     }
 
-pub relates_whole : (pass : Pass3) (t : Kept) (read written : List Symbol) → Stands pass t read written → Relates pass (emptied t) read (written ++ ready_by t)
+pub relates_whole : (pass : Pass3) (t : TablesModel) (read written : List Symbol) → Stands pass t read written → Relates pass (emptied t) read (written ++ ready_by t)
 relates_whole pass t read written h = record {
   light = all_light pass t read written h;
   few = omega (arith, h.ready.few, at_most_one pass.stopped);

@@ -9,7 +9,7 @@ use Rattle.gier_pass3.specs.declared.item.Item.{Item}
 use Rattle.gier_pass3.specs.declared.stack.Wanted.{Wanted}
 use Rattle.gier_pass3.specs.declared.item.Item.TheVariants.{OpenProgram, MorePairs}
 use Rattle.gier_pass3.specs.Items.{number_of}
-use Rattle.gier_text.specs.Kept.{Kept}
+use Rattle.gier_text.specs.TablesModel.{TablesModel}
 use Rattle.gier_pass3.specs.Lists.{stack_in}
 use Rattle.gier_pass3.specs.Grammar.{Pops, wanted_above, IsAbove, item_at, all_items, beside, word_of, read_by, read_word, read_words, IsItem, AreItems}
 
@@ -89,11 +89,11 @@ with_last (w ∷ v ∷ ws) zero d e = absurd (omega (arith, e))
 with_last (w ∷ ws) (suc n) d e = ap (λ l. w ∷ l) (with_last ws n d (omega (arith, e)))
 
 -- the word that stands last on a stack is taken away
-popped_by : (t : Kept) (ws : List ℕ) (w : ℕ) (found : Option Item) (result : Option Wanted) → item_at (w % 256) ≡ found → ((item : Item) → item_at (w % 256) ≡ Some item → result ≡ Some (record { item = item; left = w / 256 })) → (stack_in t).words ≡ ws → AreItems ws [] → IsItem found (read_words ws []) → Pops (read_by found (w / 256) (read_words ws [])) result t
+popped_by : (t : TablesModel) (ws : List ℕ) (w : ℕ) (found : Option Item) (result : Option Wanted) → item_at (w % 256) ≡ found → ((item : Item) → item_at (w % 256) ≡ Some item → result ≡ Some (record { item = item; left = w / 256 })) → (stack_in t).words ≡ ws → AreItems ws [] → IsItem found (read_words ws []) → Pops (read_by found (w / 256) (read_words ws [])) result t
 popped_by t ws w None result e same is items one = absurd one
 popped_by t ws w (Some item) result e same is items one = rw (same item e, is) (refl, one, items)
 
-pub popped : (t : Kept) (ws words : List ℕ) (w : ℕ) (result : Option Wanted) → words ≡ ws ++ w ∷ [] → ((item : Item) → item_at (w % 256) ≡ Some item → result ≡ Some (record { item = item; left = w / 256 })) → (stack_in t).words ≡ ws → AreItems words [] → Pops (read_words words []) result t
+pub popped : (t : TablesModel) (ws words : List ℕ) (w : ℕ) (result : Option Wanted) → words ≡ ws ++ w ∷ [] → ((item : Item) → item_at (w % 256) ≡ Some item → result ≡ Some (record { item = item; left = w / 256 })) → (stack_in t).words ≡ ws → AreItems words [] → Pops (read_words words []) result t
 popped t ws words w result whole same is items =
     let less = items_less ws w [] (rw (sym whole) items) in
     rw (whole, read_more ws w []) (popped_by t ws w (item_at (w % 256)) result refl same is less.0 less.1)

@@ -4,7 +4,7 @@ use Rattle.gier_symbol.specs.declared.symbol.Symbol.{Symbol}
 use Rattle.gier_tree.specs.Trees.{Simple, OneImplication, Implication, OneDisjunction, Disjunction, OneConjunction, Conjunction, OneNegation, Relation, Arithmetic, Term, OneFactor, Factor, OnePrimary, Primary, Raised, Multiplied, Summed, Both, Either, Implies, Equivalent}
 use Rattle.gier_tree.specs.Spell.{spell_simple, spell_implication, spell_disjunction, spell_conjunction, spell_negation, spell_relation, spell_arithmetic, spell_term, spell_factor, spell_primary}
 use Rattle.gier_tree.specs.Wanted.{MayBeNot, NoNot, ANot, MayBeSign, NoSign, ASign, MayBeRelation, NoRelation, ARelation, Powers, Products, Sums, Ands, Ors, Impls, Equivs, Trees, tail_items, with_powers, with_products, with_sums, with_relation, with_ands, with_ors, with_impls, with_equivs, with_sign, with_not, shut_factor, shut_term, shut_arithmetic, shut_relation, shut_negation, shut_conjunction, shut_disjunction, shut_implication, shut_simple, simple_of}
-use Rattle.gier_tree.proofs.Tails.{spell_powers, spell_products, spell_sums, spell_ands, spell_ors, spell_impls, spell_equivs, spell_may_relation, spell_may_sign, spell_may_not}
+use Rattle.gier_tree.proofs.OperatorTails.{spell_powers, spell_products, spell_sums, spell_ands, spell_ors, spell_impls, spell_equivs, spell_may_relation, spell_may_sign, spell_may_not}
 
 powers_joined : (f : Factor) (ns : Powers) (k : List Symbol) → spell_factor (with_powers f ns) k ≡ spell_factor f (spell_powers ns k)
 powers_joined f [] k = refl

@@ -4,12 +4,12 @@ use Rattle.std.specs.Prelude.{All, IsTrue}
 use Rattle.std.proofs.lemmas.Bool.Decides.{nat_tests}
 use Rattle.gier_symbol.specs.declared.symbol.Symbol.{Symbol}
 use Rattle.gier_symbol.specs.Texts.{stands_in}
-use Rattle.gier_text.specs.Growth.{weight, weight_of, is_numbered}
+use Rattle.gier_text.specs.Potential.{potential, potential_of, is_numbered}
 use Rattle.std.specs.Prelude.{Option, None, Some}
 use Rattle.std.proofs.lemmas.List.Elements.{All-append}
 use Rattle.gier_symbol.specs.Tags.{number_of}
-use Rattle.gier_text.specs.Kept.{Kept}
-use Rattle.gier_text.specs.Outbox.{waiting, if_any}
+use Rattle.gier_text.specs.TablesModel.{TablesModel}
+use Rattle.gier_text.specs.Outbox.{outbox_symbols, if_any}
 use Rattle.gier_pass3.specs.declared.pass.Pass3.{Pass3}
 use Rattle.gier_pass3.specs.declared.rule.Act.{Act}
 use Rattle.gier_pass3.specs.declared.rule.Role.{Role}
@@ -19,20 +19,20 @@ use Rattle.gier_pass3.specs.Rules.{cost_of, costs, tag_of}
 use Rattle.gier_pass3.specs.Lists.{KeepsLists, stack_in, held_in, ready_in, held_by, ready_by}
 use Rattle.gier_pass3.specs.Standing.{IsFit, IsName, name_weight, Holds, Moves}
 
-pub weight_append : (xs ys : List Symbol) → weight 3 (xs ++ ys) ≡ weight 3 xs + weight 3 ys
+pub weight_append : (xs ys : List Symbol) → potential 3 (xs ++ ys) ≡ potential 3 xs + potential 3 ys
 weight_append [] ys = omega arith
 weight_append (x ∷ xs) ys = omega (arith, weight_append xs ys)
 
-pub some_weight : (tag : ℕ) → 1 ≤ weight_of 3 tag
+pub some_weight : (tag : ℕ) → 1 ≤ potential_of 3 tag
 some_weight tag = grind (arith, nat_tests)
 
-pub most_weight : (tag : ℕ) → weight_of 3 tag ≤ 6
+pub most_weight : (tag : ℕ) → potential_of 3 tag ≤ 6
 most_weight tag = grind (arith, nat_tests)
 
-pub light : (tag : ℕ) → IsTrue (stands_in 2 tag) → weight_of 3 tag ≤ 5
+pub light : (tag : ℕ) → IsTrue (stands_in 2 tag) → potential_of 3 tag ≤ 5
 light tag is = grind (arith, nat_tests)
 
-pub length_weight : (list : List Symbol) → length list ≤ weight 3 list
+pub length_weight : (list : List Symbol) → length list ≤ potential 3 list
 length_weight [] = omega arith
 length_weight (s ∷ list) = omega (arith, some_weight s.tag, length_weight list)
 
@@ -76,7 +76,7 @@ pub number_small : (bytes : ℕ) (s : Symbol) → s.tag ≡ 3 → IsTrue (is_num
 number_small bytes s tag is = grind (arith, nat_tests)
 
 -- the load after a symbol was made ready
-pub moves_ready : (pass : Pass3) (t u : Kept) (s : Symbol) → Holds pass t → KeepsLists t u → stack_in u ≡ stack_in t → held_in u ≡ held_in t → ready_by u ≡ ready_by t ++ s ∷ [] → IsFit 3 pass.bytes s → Moves (weight_of 3 s.tag) 0 pass pass t u
+pub moves_ready : (pass : Pass3) (t u : TablesModel) (s : Symbol) → Holds pass t → KeepsLists t u → stack_in u ≡ stack_in t → held_in u ≡ held_in t → ready_by u ≡ ready_by t ++ s ∷ [] → IsFit 3 pass.bytes s → Moves (potential_of 3 s.tag) 0 pass pass t u
 moves_ready pass t u s holds keeps stack held ready fit = record {
   holds = record {
     lists = keeps.lists;
@@ -88,7 +88,7 @@ moves_ready pass t u s holds keeps stack held ready fit = record {
     name = holds.name;
     line = holds.line;
   };
-  load = omega (arith, ap credit_in stack, ap (λ l. weight 3 (waiting l)) held, ap (λ l. weight 3 l) ready, weight_append (ready_by t) (s ∷ []));
+  load = omega (arith, ap credit_in stack, ap (λ l. potential 3 (outbox_symbols l)) held, ap (λ l. potential 3 l) ready, weight_append (ready_by t) (s ∷ []));
   depth = omega (arith, ap (λ l. l.count) stack);
   bytes = refl;
   read = refl;
@@ -98,7 +98,7 @@ moves_ready pass t u s holds keeps stack held ready fit = record {
 }
 
 -- the load after a symbol was held
-pub moves_held : (pass : Pass3) (t u : Kept) (s : Symbol) → Holds pass t → KeepsLists t u → stack_in u ≡ stack_in t → held_by u ≡ held_by t ++ s ∷ [] → ready_in u ≡ ready_in t → IsFit 3 pass.bytes s → Moves (weight_of 3 s.tag) 0 pass pass t u
+pub moves_held : (pass : Pass3) (t u : TablesModel) (s : Symbol) → Holds pass t → KeepsLists t u → stack_in u ≡ stack_in t → held_by u ≡ held_by t ++ s ∷ [] → ready_in u ≡ ready_in t → IsFit 3 pass.bytes s → Moves (potential_of 3 s.tag) 0 pass pass t u
 moves_held pass t u s holds keeps stack held ready fit = record {
   holds = record {
     lists = keeps.lists;
@@ -110,7 +110,7 @@ moves_held pass t u s holds keeps stack held ready fit = record {
     name = holds.name;
     line = holds.line;
   };
-  load = omega (arith, ap credit_in stack, ap (λ l. weight 3 (waiting l)) ready, ap (λ l. weight 3 l) held, weight_append (held_by t) (s ∷ []));
+  load = omega (arith, ap credit_in stack, ap (λ l. potential 3 (outbox_symbols l)) ready, ap (λ l. potential 3 l) held, weight_append (held_by t) (s ∷ []));
   depth = omega (arith, ap (λ l. l.count) stack);
   bytes = refl;
   read = refl;
@@ -123,12 +123,12 @@ name_fits : (bytes : ℕ) (name : Option Symbol) → IsName bytes name → All (
 name_fits bytes None is = λ k d lt. absurd (omega (arith, lt))
 name_fits bytes (Some s) is = one_fit bytes s (fit_two bytes s is)
 
-pub name_light : (name : Option Symbol) → weight 3 (if_any name) ≤ name_weight name
+pub name_light : (name : Option Symbol) → potential 3 (if_any name) ≤ name_weight name
 name_light None = omega arith
 name_light (Some s) = omega (arith, most_weight s.tag)
 
 -- the load after all that was held was made ready
-pub moves_all : (pass : Pass3) (t u : Kept) → Holds pass t → KeepsLists t u → stack_in u ≡ stack_in t → held_by u ≡ [] → ready_by u ≡ ready_by t ++ held_by t ++ if_any pass.name → Moves 0 0 pass (record pass { name = None }) t u
+pub moves_all : (pass : Pass3) (t u : TablesModel) → Holds pass t → KeepsLists t u → stack_in u ≡ stack_in t → held_by u ≡ [] → ready_by u ≡ ready_by t ++ held_by t ++ if_any pass.name → Moves 0 0 pass (record pass { name = None }) t u
 moves_all pass t u holds keeps stack held ready = record {
   holds = record {
     lists = keeps.lists;
@@ -140,7 +140,7 @@ moves_all pass t u holds keeps stack held ready = record {
     name = tt;
     line = holds.line;
   };
-  load = omega (arith, ap credit_in stack, ap (λ l. weight 3 l) held, ap (λ l. weight 3 l) ready, weight_append (ready_by t ++ held_by t) (if_any pass.name), weight_append (ready_by t) (held_by t), name_light pass.name);
+  load = omega (arith, ap credit_in stack, ap (λ l. potential 3 l) held, ap (λ l. potential 3 l) ready, weight_append (ready_by t ++ held_by t) (if_any pass.name), weight_append (ready_by t) (held_by t), name_light pass.name);
   depth = omega (arith, ap (λ l. l.count) stack);
   bytes = refl;
   read = refl;

@@ -9,8 +9,8 @@ use Rattle.gier_tree.specs.Trees.{Program}
 use Rattle.gier_tree.specs.Spell.{spell_program}
 use Rattle.gier_tree.specs.Wanted.{Item, WantProgram, Trees}
 use Rattle.gier_tree.specs.Taking.{Act, Refuse, Pass, Push, act}
-use Rattle.gier_tree.specs.Structure.{next_of, step, step_sign, fault_on, first_refused, with_tree, gather, build_act, build_at, build_end, build, first_tree, written}
-use Rattle.gier_tree.proofs.Whole.{program_built}
+use Rattle.gier_tree.specs.Structure.{next_of, step, step_sign, fault_on, first_refused, with_tree, gather, build_act, build_at, build_end, build, first_tree, program_spelled}
+use Rattle.gier_tree.proofs.ProgramsRead.{program_built}
 use Rattle.gier_pass3.proofs.ItemWords.{some_same}
 
 abbrev pub then_run : Option (List Item) → (List Item → Option (List Item)) → Option (List Item)
@@ -138,7 +138,7 @@ tree_by : (o : Option (Trees (WantProgram ∷ []))) → is_there o ≡ true → 
 tree_by None h = absurd (false≢true h)
 tree_by (Some ts) h = (ts.0, refl)
 
-pub program_of : (w : List Symbol) → run w (WantProgram ∷ []) ≡ Some [] → (p : Program) × (written w ≡ Some p)
+pub program_of : (w : List Symbol) → run w (WantProgram ∷ []) ≡ Some [] → (p : Program) × (program_spelled w ≡ Some p)
 program_of w h = tree_by (build w (WantProgram ∷ [])) (run_there w (WantProgram ∷ []) ∙ ap is_empty h)
 
 pub run_program : (p : Program) → run (spell_program p) (WantProgram ∷ []) ≡ Some []

@@ -12,7 +12,7 @@ use Rattle.gier_tree.specs.Spell.{spell_program}
 use Rattle.gier_tree.specs.Signs.{Sign, SName, SNumber, SByte, SComma, sign_tag, plain_signs, has_tag, plain_by, sign_by, sign_of}
 use Rattle.gier_tree.specs.Wanted.{Item, Want, MayNot, WantFurther, WantProgram, TreeOf, Trees}
 use Rattle.gier_tree.specs.Taking.{Act, Refuse, Pass, Push, act, want_by, same_sign}
-use Rattle.gier_tree.specs.Structure.{split, with_tree, gather, build_act, build_at, build, first_tree, written}
+use Rattle.gier_tree.specs.Structure.{split, with_tree, gather, build_act, build_at, build, first_tree, program_spelled}
 use Rattle.gier_pass3.proofs.Bare.{both}
 use Rattle.gier_pass3.proofs.ItemWords.{some_same, find_holds, same_number}
 use Rattle.gier_pass3.proofs.Spelling.{spell_item, spell_all}
@@ -109,5 +109,5 @@ whole_spelled : (o : Option (Trees (WantProgram ∷ []))) (w : List Symbol) (p :
 whole_spelled None w p e h = absurd (none-some p h)
 whole_spelled (Some (MkProgram ls g l, u)) w p e h = ap spell_program (sym (some_same (MkProgram ls g l) p h)) ∙ build_spelled w (WantProgram ∷ []) (MkProgram ls g l, u) refl e
 
-pub written_spelled : (w : List Symbol) (p : Program) → written w ≡ Some p → spell_program p ≡ w
+pub written_spelled : (w : List Symbol) (p : Program) → program_spelled w ≡ Some p → spell_program p ≡ w
 written_spelled w p h = whole_spelled (build w (WantProgram ∷ [])) w p refl h

@@ -8,7 +8,7 @@ use Rattle.gier_tree.specs.Spell.{ident, type_tag, spell_bytes, spell_expr, spel
 use Rattle.gier_tree.specs.Signs.{sign_tag}
 use Rattle.gier_tree.specs.Wanted.{Ended, NoNot, NoSign, Part, NoPart, SomeSubscripts, SomeActuals, Right, AfterElement, ElementIsLeft, ElementIsOperand, AfterRight, NameIsLeft, NameIsOperand, NameHasSubscripts, NameHasActuals, AfterName, NameLabels, NameAssigned, ElementAssigned, NameCalled, NameAlone, MayBeElse, NoElse, AnElse, Branch, BranchLoop, BranchUnconditional, AfterBranchName, BranchLabels, BranchAssigned, BranchElement, BranchCalled, BranchAlone, MayBeStep, NoStep, AStep, AWhile, AfterType, TypeNames, TypeArrays, TypeProcedure, AfterOwnType, OwnNames, OwnArrays, MayBeWord, NoWord, ArrayWord, ProcedureWord, Item, Want, WantName, WantNumber, WantExpr, WantSimple, MayNot, MaySign, WantPrimary, MayPower, MayTimes, MaySum, MayRelation, MayAnd, MayOr, MayImpl, MayEquiv, MayPart, WantSubscripts, WantActual, WantActuals, WantBytes, WantRight, WantAfterRight, WantAfterElement, MayNames, MayExprs, WantType, WantAfterType, WantAfterOwnType, WantSegment, WantPairs, MaySegments, WantConstant, WantFixed, WantFurther, MayFixed, MayFormals, MayValues, MaySpecifications, MayWord, MayDeclarations, WantStatement, WantAfterName, WantBranch, WantAfterBranchName, MayElse, MayStep, WantTurns, WantStatements, WantProgram, TreeOf, Trees}
 use Rattle.gier_tree.specs.Taking.{call_of, element_of, primary_of, right_of, label_statement, label_branch, label_program, named_statement, named_branch, conditional_of, group_of, turns_of, declare_by_type, declare_own, specifier_of}
-use Rattle.gier_tree.proofs.Tails.{spell_powers, spell_products, spell_sums, spell_ands, spell_ors, spell_impls, spell_equivs, spell_may_relation, spell_may_sign, spell_may_not, spell_tails}
+use Rattle.gier_tree.proofs.OperatorTails.{spell_powers, spell_products, spell_sums, spell_ands, spell_ors, spell_impls, spell_equivs, spell_may_relation, spell_may_sign, spell_may_not, spell_tails}
 use Rattle.gier_pass3.proofs.Joined.{simple_of_spelled}
 
 abbrev pub spell_more_exprs : Ended Exprs → List Symbol → List Symbol

@@ -4,7 +4,7 @@ use Rattle.std.specs.Prelude.{◌≡◌, ℕ, List, [], ◌∷◌, ◌++◌, Non
 use Rattle.gier_symbol.specs.declared.symbol.Symbol.{Symbol}
 use Rattle.gier_tree.specs.Signs.{STextEnd, sign_of}
 use Rattle.gier_tree.specs.Trees.{Program}
-use Rattle.gier_tree.specs.Structure.{IsWritten, IsPrefix, IsStructureFault, structure_fault, written}
+use Rattle.gier_tree.specs.Structure.{IsWritten, IsPrefix, IsStructureFault, structure_fault, program_spelled}
 
 pub record IsCompletion : Type 0 where
   -- the fault that is found is one, and each is found
@@ -15,6 +15,6 @@ pub record IsCompletion : Type 0 where
   pub completion : (symbols : List Symbol) → structure_fault symbols ≡ None → IsPrefix symbols
   -- where they also end with the end of the text, a program is built of them
   pub program : (before : List Symbol) (end : Symbol) → sign_of end ≡ STextEnd
-      → structure_fault (before ++ end ∷ []) ≡ None → (t : Program) × (written (before ++ end ∷ []) ≡ Some t)
+      → structure_fault (before ++ end ∷ []) ≡ None → (t : Program) × (program_spelled (before ++ end ∷ []) ≡ Some t)
   -- and a program that is built of symbols is spelled as they are
-  pub spelled : (symbols : List Symbol) (t : Program) → written symbols ≡ Some t → IsWritten t symbols
+  pub spelled : (symbols : List Symbol) (t : Program) → program_spelled symbols ≡ Some t → IsWritten t symbols

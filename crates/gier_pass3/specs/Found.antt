@@ -6,7 +6,7 @@ use Rattle.gier_symbol.specs.declared.tag.Tag.TheVariants.{Identifier, Number, S
 use Rattle.gier_symbol.specs.Texts.{is_tag_of}
 use Rattle.gier_text.specs.declared.fault.Fault.{Fault}
 use Rattle.gier_text.specs.declared.fault.FaultKind.TheVariants.{Structure}
-use Rattle.gier_text.specs.Kept.{Kept}
+use Rattle.gier_text.specs.TablesModel.{TablesModel}
 use Rattle.gier_tree.specs.Signs.{Sign, sign_tag}
 use Rattle.gier_tree.specs.Structure.{step, step_sign, first_refused, structure_fault}
 use Rattle.gier_pass3.specs.Grammar.{wanted_in, HasItems}
@@ -39,32 +39,32 @@ AreFound None read faults = faults ≡ []
 AreFound (Some line) read faults = IsRefused read line faults
 
 -- no symbol was refused yet, and the pass wants what the grammar does
-pub record GoesOn (t : Kept) (read : List Symbol) : Type 0 where
+pub record GoesOn (t : TablesModel) (read : List Symbol) : Type 0 where
   pub none : t.faults ≡ []
   pub items : HasItems t
   pub same : (more : List Symbol) → structure_fault (read ++ more) ≡ first_refused more (wanted_in t)
 
 -- a symbol was refused, whatever follows
-pub record HasFailed (t : Kept) (read : List Symbol) : Type 0 where
+pub record HasFailed (t : TablesModel) (read : List Symbol) : Type 0 where
   pub line : ℕ
   pub refused : IsRefused read line t.faults
   pub same : (more : List Symbol) → structure_fault (read ++ more) ≡ Some line
 
-abbrev pub HasFound : (stopped : Bool) → Kept → (read : List Symbol) → Type 0
+abbrev pub HasFound : (stopped : Bool) → TablesModel → (read : List Symbol) → Type 0
 HasFound false t read = GoesOn t read
 HasFound true t read = HasFailed t read
 
 -- before a symbol of this kind some items are nothing, and were passed
-pub record Passes (kind : Tag) (t u : Kept) : Type 0 where
+pub record Passes (kind : Tag) (t u : TablesModel) : Type 0 where
   pub items : HasItems u
   pub same : (sign : Sign) (line : ℕ) → sign_tag sign ≡ kind → step_sign sign line (wanted_in t) ≡ step_sign sign line (wanted_in u)
 
 -- the symbol was taken: the pass wants what the grammar does behind it
-pub record Takes (s : Symbol) (t u : Kept) : Type 0 where
+pub record Takes (s : Symbol) (t u : TablesModel) : Type 0 where
   pub items : HasItems u
   pub same : (more : List Symbol) → first_refused (s ∷ more) (wanted_in t) ≡ first_refused more (wanted_in u)
 
 -- the symbol was taken, or refused
-abbrev pub Follows : (stopped : Bool) → Symbol → Kept → Kept → Type 0
+abbrev pub Follows : (stopped : Bool) → Symbol → TablesModel → TablesModel → Type 0
 Follows true s t u = step s (wanted_in t) ≡ None
 Follows false s t u = Takes s t u

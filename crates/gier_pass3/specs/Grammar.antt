@@ -4,7 +4,7 @@ use Rattle.std.specs.List.{find}
 use Rattle.gier_tree.specs.Signs.{SBecomes, SColon, SElse, SLeftBracket, SRightParenthesis, SSemicolon, STextEnd, SThen, SUntil}
 use Rattle.gier_tree.specs.Trees.{most_further}
 use Rattle.gier_tree.specs.Wanted.{Item as GrammarItem, WantProgram, Want, MayDeclarations, WantStatement, WantStatements, WantType, WantAfterOwnType, WantName, MayNames, WantConstant, WantFurther, MayFixed, WantAfterType, WantExpr, WantPairs, MaySegments, MayExprs, MayFormals, MayValues, MaySpecifications, MayWord, WantAfterName, WantBranch, WantAfterBranchName, MayElse, MayStep, WantTurns, WantRight, WantAfterRight, WantAfterElement, WantSimple, MayNot, MaySign, WantNumber, WantPrimary, MayPart, WantSubscripts, WantActual, WantBytes, WantActuals, MayPower, MayTimes, MaySum, MayRelation, MayAnd, MayOr, MayImpl, MayEquiv}
-use Rattle.gier_text.specs.Kept.{Kept}
+use Rattle.gier_text.specs.TablesModel.{TablesModel}
 use Rattle.gier_pass3.specs.declared.item.Item.{Item}
 use Rattle.gier_pass3.specs.declared.item.Item.TheVariants.{OpenProgram as IOpenProgram, OpenArraySegment as IOpenArraySegment, OpenProcedureBody as IOpenProcedureBody, OpenControlledStatement as IOpenControlledStatement, OpenActual as IOpenActual, OpenSubscript as IOpenSubscript, OpenBound as IOpenBound, OpenSwitchElement as IOpenSwitchElement, OpenForElement as IOpenForElement, ShutProgram as IShutProgram, ShutBlock as IShutBlock, ShutCompound as IShutCompound, ShutTypeDeclaration as IShutTypeDeclaration, ShutArraySegment as IShutArraySegment, ShutSwitchDeclaration as IShutSwitchDeclaration, ShutProcedureDeclaration as IShutProcedureDeclaration, ShutProcedureBody as IShutProcedureBody, ShutForStatement as IShutForStatement, ShutControlledStatement as IShutControlledStatement, ShutConditionalStatement as IShutConditionalStatement, ShutActual as IShutActual, ShutSubscript as IShutSubscript, ShutBound as IShutBound, ShutSwitchElement as IShutSwitchElement, ShutForElement as IShutForElement, ShutGoTo as IShutGoTo, ShutConditionalExpression as IShutConditionalExpression, AfterOwnType as IAfterOwnType, Program as IProgram, ProgramColon as IProgramColon, TextEnd as ITextEnd, AfterBegin as IAfterBegin, BlockTail as IBlockTail, CompoundTail as ICompoundTail, FirstDeclared as IFirstDeclared, Declared as IDeclared, MoreDeclarations as IMoreDeclarations, OwnType as IOwnType, OwnName as IOwnName, MoreOwnNames as IMoreOwnNames, FixedBounds as IFixedBounds, FixedColon as IFixedColon, MorePairs as IMorePairs, MoreFixedSegments as IMoreFixedSegments, AfterType as IAfterType, Name as IName, MoreNames as IMoreNames, Bounds as IBounds, BoundColon as IBoundColon, BoundTail as IBoundTail, MoreSegments as IMoreSegments, SwitchBecomes as ISwitchBecomes, MoreSwitchElements as IMoreSwitchElements, MayFormals as IMayFormals, Formal as IFormal, FormalTail as IFormalTail, Heading as IHeading, MayValues as IMayValues, ValueName as IValueName, MoreValueNames as IMoreValueNames, Semicolon as ISemicolon, MoreSpecifications as IMoreSpecifications, MaySpecifier as IMaySpecifier, SpecifiedName as ISpecifiedName, MoreSpecifiedNames as IMoreSpecifiedNames, Statement as IStatement, AfterName as IAfterName, Branch as IBranch, AfterBranchName as IAfterBranchName, MayElse as IMayElse, ForVariable as IForVariable, ForBecomes as IForBecomes, MayStep as IMayStep, ForTail as IForTail, Until as IUntil, Becomes as IBecomes, Right as IRight, AfterRightName as IAfterRightName, AfterRightElement as IAfterRightElement, Expression as IExpression, Simple as ISimple, Then as IThen, Else as IElse, MayNot as IMayNot, MaySign as IMaySign, Number as INumber, Primary as IPrimary, MayPower as IMayPower, MayTimes as IMayTimes, MaySum as IMaySum, MayRelation as IMayRelation, MayAnd as IMayAnd, MayOr as IMayOr, MayImplication as IMayImplication, MayEquivalence as IMayEquivalence, MayPart as IMayPart, SubscriptTail as ISubscriptTail, Actual as IActual, StringRest as IStringRest, ActualTail as IActualTail, RightParenthesis as IRightParenthesis}
 use Rattle.gier_pass3.specs.declared.stack.Wanted.{Wanted}
@@ -161,13 +161,13 @@ AreItems [] below = Unit {0}
 AreItems (word ∷ words) below = IsItem (item_at (word % 256)) below × AreItems words (read_word word below)
 
 -- what the pass wants
-abbrev pub wanted_in : Kept → List GrammarItem
+abbrev pub wanted_in : TablesModel → List GrammarItem
 wanted_in t = read_words (stack_in t).words []
 
-abbrev pub HasItems : Kept → Type 0
+abbrev pub HasItems : TablesModel → Type 0
 HasItems t = AreItems (stack_in t).words []
 
 -- the next item was taken away, or there was none
-abbrev pub Pops : (before : List GrammarItem) → Option Wanted → Kept → Type 0
+abbrev pub Pops : (before : List GrammarItem) → Option Wanted → TablesModel → Type 0
 Pops before None t = before ≡ []
 Pops before (Some next) t = (before ≡ wanted_above next.item next.left (wanted_in t)) × IsAbove next.item (wanted_in t) × HasItems t

@@ -5,7 +5,7 @@ use Rattle.gier_pass3.specs.declared.rule.Role.{Role}
 use Rattle.gier_pass3.specs.declared.rule.Role.TheVariants.{Declaring as LDeclaring, Formal as LFormal, ValueListed as LValueListed, Specified as LSpecified, LabelColon as LLabelColon, LeadingPlus as LLeadingPlus, LeadingMinus as LLeadingMinus}
 use Rattle.gier_symbol.specs.declared.tag.Tag.TheVariants.{Declaring as TDeclaring, Formal as TFormal, LabelColon as TLabelColon, LeadingMinus as TLeadingMinus, LeadingPlus as TLeadingPlus, Specified as TSpecified, ValueListed as TValueListed}
 use Rattle.gier_symbol.specs.Tags.{number_of}
-use Rattle.gier_text.specs.Growth.{weight_of}
+use Rattle.gier_text.specs.Potential.{potential_of}
 use Rattle.gier_tree.specs.declared.construct.Construct.TheVariants.{Block as CBlock, Compound as CCompound, ConditionalExpression as CConditionalExpression, ConditionalStatement as CConditionalStatement, ForStatement as CForStatement, GoTo as CGoTo, ProcedureDeclaration as CProcedureDeclaration, SwitchDeclaration as CSwitchDeclaration, TypeDeclaration as CTypeDeclaration}
 use Rattle.gier_pass3.specs.declared.item.Item.{Item}
 use Rattle.gier_pass3.specs.declared.item.Item.TheVariants.{OpenArraySegment as IOpenArraySegment, OpenProcedureBody as IOpenProcedureBody, OpenControlledStatement as IOpenControlledStatement, OpenActual as IOpenActual, OpenSubscript as IOpenSubscript, OpenBound as IOpenBound, OpenSwitchElement as IOpenSwitchElement, OpenForElement as IOpenForElement, ShutBlock as IShutBlock, ShutCompound as IShutCompound, ShutTypeDeclaration as IShutTypeDeclaration, ShutArraySegment as IShutArraySegment, ShutSwitchDeclaration as IShutSwitchDeclaration, ShutProcedureDeclaration as IShutProcedureDeclaration, ShutProcedureBody as IShutProcedureBody, ShutForStatement as IShutForStatement, ShutControlledStatement as IShutControlledStatement, ShutConditionalStatement as IShutConditionalStatement, ShutActual as IShutActual, ShutSubscript as IShutSubscript, ShutBound as IShutBound, ShutSwitchElement as IShutSwitchElement, ShutForElement as IShutForElement, ShutGoTo as IShutGoTo, ShutConditionalExpression as IShutConditionalExpression, AfterOwnType as IAfterOwnType, Program as IProgram, ProgramColon as IProgramColon, AfterBegin as IAfterBegin, BlockTail as IBlockTail, CompoundTail as ICompoundTail, FirstDeclared as IFirstDeclared, Declared as IDeclared, MoreDeclarations as IMoreDeclarations, OwnType as IOwnType, OwnName as IOwnName, MoreOwnNames as IMoreOwnNames, FixedBounds as IFixedBounds, FixedColon as IFixedColon, MorePairs as IMorePairs, MoreFixedSegments as IMoreFixedSegments, AfterType as IAfterType, Name as IName, MoreNames as IMoreNames, Bounds as IBounds, BoundColon as IBoundColon, BoundTail as IBoundTail, MoreSegments as IMoreSegments, SwitchBecomes as ISwitchBecomes, MoreSwitchElements as IMoreSwitchElements, MayFormals as IMayFormals, Formal as IFormal, FormalTail as IFormalTail, Heading as IHeading, MayValues as IMayValues, ValueName as IValueName, MoreValueNames as IMoreValueNames, Semicolon as ISemicolon, MoreSpecifications as IMoreSpecifications, MaySpecifier as IMaySpecifier, SpecifiedName as ISpecifiedName, MoreSpecifiedNames as IMoreSpecifiedNames, Statement as IStatement, AfterName as IAfterName, Branch as IBranch, AfterBranchName as IAfterBranchName, MayElse as IMayElse, ForVariable as IForVariable, ForBecomes as IForBecomes, MayStep as IMayStep, ForTail as IForTail, Until as IUntil, Becomes as IBecomes, Right as IRight, AfterRightName as IAfterRightName, AfterRightElement as IAfterRightElement, Expression as IExpression, Simple as ISimple, Then as IThen, Else as IElse, MayNot as IMayNot, MaySign as IMaySign, Number as INumber, Primary as IPrimary, MayPower as IMayPower, MayTimes as IMayTimes, MaySum as IMaySum, MayRelation as IMayRelation, MayAnd as IMayAnd, MayOr as IMayOr, MayImplication as IMayImplication, MayEquivalence as IMayEquivalence, MayPart as IMayPart, SubscriptTail as ISubscriptTail, Actual as IActual, StringRest as IStringRest, ActualTail as IActualTail, RightParenthesis as IRightParenthesis}
@@ -196,7 +196,7 @@ abbrev pub cost_of : Act → ℕ
 cost_of (Open construct) = 1
 cost_of Release = 0
 cost_of Write = 5
-cost_of (WriteAs role) = weight_of 3 (number_of (tag_of role))
+cost_of (WriteAs role) = potential_of 3 (number_of (tag_of role))
 cost_of WriteOwn = 1
 cost_of WriteEnd = 5
 cost_of Hold = 5

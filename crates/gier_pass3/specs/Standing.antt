@@ -3,8 +3,8 @@ use Rattle.std.specs.Prelude.{Bool, true, false, ◌≡◌, ◌≤◌, ◌<◌, 
 use Rattle.gier_symbol.specs.declared.symbol.Symbol.{Symbol}
 use Rattle.gier_symbol.specs.Symbols.{IsSymbol}
 use Rattle.gier_symbol.specs.Texts.{stands_in}
-use Rattle.gier_text.specs.Growth.{weight, is_numbered, IsLight}
-use Rattle.gier_text.specs.Kept.{Kept}
+use Rattle.gier_text.specs.Potential.{potential, is_numbered, IsWithinPotential}
+use Rattle.gier_text.specs.TablesModel.{TablesModel}
 use Rattle.gier_pass3.specs.declared.pass.Pass3.{Pass3}
 use Rattle.gier_tree.specs.Structure.{structure_fault}
 use Rattle.gier_pass3.specs.Lists.{HasLists, stack_in, held_in, ready_in, depth, credit, held_by, ready_by}
@@ -26,11 +26,11 @@ IsName bytes None = Unit {0}
 IsName bytes (Some name) = IsFit 2 bytes name
 
 -- what is held and ready, and what the items that are wanted may still write
-abbrev pub load : Pass3 → Kept → ℕ
-load pass t = credit t + weight 3 (held_by t) + weight 3 (ready_by t) + name_weight pass.name
+abbrev pub load : Pass3 → TablesModel → ℕ
+load pass t = credit t + potential 3 (held_by t) + potential 3 (ready_by t) + name_weight pass.name
 
 -- fields and tables fit each other
-pub record Holds (pass : Pass3) (t : Kept) : Type 0 where
+pub record Holds (pass : Pass3) (t : TablesModel) : Type 0 where
   pub lists : HasLists t
   pub stack_room : (stack_in t).capacity ≡ 12 * pass.bytes + 32
   pub held_room : (held_in t).capacity ≡ 8 * pass.bytes + 16
@@ -41,12 +41,12 @@ pub record Holds (pass : Pass3) (t : Kept) : Type 0 where
   pub line : pass.last < 2 ^ 24
 
 -- the lists have room for so much more load and so many more items
-pub record HasRoom (cost deeper : ℕ) (pass : Pass3) (t : Kept) : Type 0 where
+pub record HasRoom (cost deeper : ℕ) (pass : Pass3) (t : TablesModel) : Type 0 where
   pub load : load pass t + cost ≤ 8 * pass.bytes + 16
   pub depth : depth t + deeper ≤ 12 * pass.bytes + 32
 
 -- the load grows at most by so much, and the stack by so many items
-pub record Moves (cost deeper : ℕ) (pass new : Pass3) (t u : Kept) : Type 0 where
+pub record Moves (cost deeper : ℕ) (pass new : Pass3) (t u : TablesModel) : Type 0 where
   pub holds : Holds new u
   pub load : load new u ≤ load pass t + cost
   pub depth : depth u ≤ depth t + deeper
@@ -62,7 +62,7 @@ stops true = 1
 stops false = 0
 
 -- a symbol was met: it was taken, or there is a fault
-pub record Meets (pass new : Pass3) (t u : Kept) : Type 0 where
+pub record Meets (pass new : Pass3) (t u : TablesModel) : Type 0 where
   pub holds : Holds new u
   pub load : load new u ≤ load pass t + 8
   pub depth : depth u ≤ depth t + 12
@@ -72,7 +72,7 @@ pub record Meets (pass new : Pass3) (t u : Kept) : Type 0 where
   pub few : length u.faults ≤ stops new.stopped
 
 -- between symbols, where so many may be taken
-pub record IsReady (pass : Pass3) (t : Kept) : Type 0 where
+pub record IsReady (pass : Pass3) (t : TablesModel) : Type 0 where
   pub holds : Holds pass t
   pub few : length t.faults ≤ stops pass.stopped
   pub deep : depth t ≤ 12 * pass.read + 4
@@ -81,7 +81,7 @@ pub record IsReady (pass : Pass3) (t : Kept) : Type 0 where
   pub small : t.limit ≤ 524288
 
 -- a symbol was taken: no more than eight is added to the load
-pub record Steps (pass new : Pass3) (t u : Kept) : Type 0 where
+pub record Steps (pass new : Pass3) (t u : TablesModel) : Type 0 where
   pub ready : IsReady new u
   pub load : load new u ≤ load pass t + 8
   pub read : new.read ≡ pass.read + 1
@@ -89,12 +89,12 @@ pub record Steps (pass new : Pass3) (t u : Kept) : Type 0 where
   pub limit : u.limit ≡ t.limit
 
 -- so many symbols were taken; what is written is of text 3, and not too heavy with what is held
-pub record Stands (pass : Pass3) (t : Kept) (read written : List Symbol) : Type 0 where
+pub record Stands (pass : Pass3) (t : TablesModel) (read written : List Symbol) : Type 0 where
   pub ready : IsReady pass t
   pub none_ready : ready_by t ≡ []
   pub taken : pass.read ≡ length read
   pub letters : All (IsFit 3 pass.bytes) written
-  pub light : weight 3 written + load pass t ≤ 8 * length read + 2
+  pub light : potential 3 written + load pass t ≤ 8 * length read + 2
   pub found : All IsBare read → HasFound pass.stopped t read
 
 -- letters of text 2 with small numbers of identifiers, at most one for each byte and one for the end
@@ -105,13 +105,13 @@ pub record IsTextTwo (bytes : ℕ) (list : List Symbol) : Type 0 where
 
 -- what is written is a text 3 that isn't too heavy; at most one fault was found, and where no symbol has a value that its tag
 -- has no use for, it is the fault of structure of what was read
-pub record Relates (pass : Pass3) (t : Kept) (read written : List Symbol) : Type 0 where
-  pub light : IsLight 3 pass.bytes written
+pub record Relates (pass : Pass3) (t : TablesModel) (read written : List Symbol) : Type 0 where
+  pub light : IsWithinPotential 3 pass.bytes written
   pub few : length t.faults ≤ 1
   pub found : All IsBare read → AreFound (structure_fault read) read t.faults
 
 -- the three lists are there, and empty
-pub record Opens (bytes : ℕ) (t u : Kept) : Type 0 where
+pub record Opens (bytes : ℕ) (t u : TablesModel) : Type 0 where
   pub lists : HasLists u
   pub stack_room : (stack_in u).capacity ≡ 12 * bytes + 32
   pub held_room : (held_in u).capacity ≡ 8 * bytes + 16

@@ -2,7 +2,7 @@
 // what is ready to be written.
 ghost use Rattle.std.specs.Prelude.{◌≡◌, ◌≤◌, ◌<◌, ◌+◌, ◌^◌, ◌++◌, ◌∷◌, [], length, IfSome};
 ghost use Rattle.gier_symbol.specs.Symbols.{IsSymbol};
-ghost use Rattle.gier_text.specs.Kept.{kept};
+ghost use Rattle.gier_text.specs.TablesModel.{tables_model};
 ghost use Rattle.gier_text.specs.Outbox.{symbol_at, if_any};
 ghost use Rattle.gier_pass3.specs.Lists.{HasLists, KeepsLists, stack_in, held_in, ready_in, held_by, ready_by};
 
@@ -17,34 +17,34 @@ pub const READY: u8 = 2;
 
 /// Makes a symbol ready to be written.
 pub fn ready(tables: &mut Tables, s: Symbol)
-    requires lists { HasLists (kept tables.old) }
-    requires room { length (ready_by (kept tables.old)) < (ready_in (kept tables.old)).capacity }
+    requires lists { HasLists (tables_model tables.old) }
+    requires room { length (ready_by (tables_model tables.old)) < (ready_in (tables_model tables.old)).capacity }
     requires symbol { IsSymbol s }
-    ensures kept { KeepsLists (kept tables.old) (kept tables.new) }
-    ensures stack { stack_in (kept tables.new) ≡ stack_in (kept tables.old) }
-    ensures held { held_in (kept tables.new) ≡ held_in (kept tables.old) }
-    ensures ready { ready_by (kept tables.new) ≡ ready_by (kept tables.old) ++ s ∷ [] }
+    ensures kept { KeepsLists (tables_model tables.old) (tables_model tables.new) }
+    ensures stack { stack_in (tables_model tables.new) ≡ stack_in (tables_model tables.old) }
+    ensures held { held_in (tables_model tables.new) ≡ held_in (tables_model tables.old) }
+    ensures ready { ready_by (tables_model tables.new) ≡ ready_by (tables_model tables.old) ++ s ∷ [] }
 {
     put(tables, READY, s);
 }
 
 /// Holds a symbol.
 pub fn hold(tables: &mut Tables, s: Symbol)
-    requires lists { HasLists (kept tables.old) }
-    requires room { length (held_by (kept tables.old)) < (held_in (kept tables.old)).capacity }
+    requires lists { HasLists (tables_model tables.old) }
+    requires room { length (held_by (tables_model tables.old)) < (held_in (tables_model tables.old)).capacity }
     requires symbol { IsSymbol s }
-    ensures kept { KeepsLists (kept tables.old) (kept tables.new) }
-    ensures stack { stack_in (kept tables.new) ≡ stack_in (kept tables.old) }
-    ensures held { held_by (kept tables.new) ≡ held_by (kept tables.old) ++ s ∷ [] }
-    ensures ready { ready_in (kept tables.new) ≡ ready_in (kept tables.old) }
+    ensures kept { KeepsLists (tables_model tables.old) (tables_model tables.new) }
+    ensures stack { stack_in (tables_model tables.new) ≡ stack_in (tables_model tables.old) }
+    ensures held { held_by (tables_model tables.new) ≡ held_by (tables_model tables.old) ++ s ∷ [] }
+    ensures ready { ready_in (tables_model tables.new) ≡ ready_in (tables_model tables.old) }
 {
     put(tables, HELD, s);
 }
 
 fn held_at(tables: &Tables, at: u32) -> Option<Symbol>
-    requires lists { HasLists (kept tables.now) }
-    requires at { at < (held_in (kept tables.now)).count }
-    ensures value { result ≡ symbol_at (held_in (kept tables.now)) at }
+    requires lists { HasLists (tables_model tables.now) }
+    requires at { at < (held_in (tables_model tables.now)).count }
+    ensures value { result ≡ symbol_at (held_in (tables_model tables.now)) at }
     ensures symbol { IfSome result IsSymbol }
 {
     Symbol::decode([tables.word(HELD, at, 0), tables.word(HELD, at, 1)])
@@ -52,7 +52,7 @@ fn held_at(tables: &Tables, at: u32) -> Option<Symbol>
 
 /// The line of the first symbol that is held, or another line where none is.
 pub fn first_line(tables: &Tables, name: Option<Symbol>, other: u32) -> u32
-    requires lists { HasLists (kept tables.now) }
+    requires lists { HasLists (tables_model tables.now) }
     requires name { IfSome name IsSymbol }
     requires other { other < 2 ^ 24 }
     ensures { result < 2 ^ 24 }
@@ -70,13 +70,13 @@ pub fn first_line(tables: &Tables, name: Option<Symbol>, other: u32) -> u32
 
 /// Makes all that is held ready, and the identifier, if any, behind it.
 pub fn release_all(tables: &mut Tables, name: Option<Symbol>)
-    requires lists { HasLists (kept tables.old) }
+    requires lists { HasLists (tables_model tables.old) }
     requires name { IfSome name IsSymbol }
-    requires room { length (ready_by (kept tables.old)) + length (held_by (kept tables.old)) + length (if_any name) ≤ (ready_in (kept tables.old)).capacity }
-    ensures kept { KeepsLists (kept tables.old) (kept tables.new) }
-    ensures stack { stack_in (kept tables.new) ≡ stack_in (kept tables.old) }
-    ensures held { held_by (kept tables.new) ≡ [] }
-    ensures ready { ready_by (kept tables.new) ≡ ready_by (kept tables.old) ++ held_by (kept tables.old) ++ if_any name }
+    requires room { length (ready_by (tables_model tables.old)) + length (held_by (tables_model tables.old)) + length (if_any name) ≤ (ready_in (tables_model tables.old)).capacity }
+    ensures kept { KeepsLists (tables_model tables.old) (tables_model tables.new) }
+    ensures stack { stack_in (tables_model tables.new) ≡ stack_in (tables_model tables.old) }
+    ensures held { held_by (tables_model tables.new) ≡ [] }
+    ensures ready { ready_by (tables_model tables.new) ≡ ready_by (tables_model tables.old) ++ held_by (tables_model tables.old) ++ if_any name }
 {
     release_held(tables);
     if let Some(symbol) = name {
@@ -86,12 +86,12 @@ pub fn release_all(tables: &mut Tables, name: Option<Symbol>)
 
 #[tactic(auto, using(crate::proofs::Released::one_more, crate::proofs::Released::still_fewer))]
 fn release_held(tables: &mut Tables)
-    requires lists { HasLists (kept tables.old) }
-    requires room { length (ready_by (kept tables.old)) + length (held_by (kept tables.old)) ≤ (ready_in (kept tables.old)).capacity }
-    ensures kept { KeepsLists (kept tables.old) (kept tables.new) }
-    ensures stack { stack_in (kept tables.new) ≡ stack_in (kept tables.old) }
-    ensures held { held_by (kept tables.new) ≡ [] }
-    ensures ready { ready_by (kept tables.new) ≡ ready_by (kept tables.old) ++ held_by (kept tables.old) }
+    requires lists { HasLists (tables_model tables.old) }
+    requires room { length (ready_by (tables_model tables.old)) + length (held_by (tables_model tables.old)) ≤ (ready_in (tables_model tables.old)).capacity }
+    ensures kept { KeepsLists (tables_model tables.old) (tables_model tables.new) }
+    ensures stack { stack_in (tables_model tables.new) ≡ stack_in (tables_model tables.old) }
+    ensures held { held_by (tables_model tables.new) ≡ [] }
+    ensures ready { ready_by (tables_model tables.new) ≡ ready_by (tables_model tables.old) ++ held_by (tables_model tables.old) }
 {
     for at in 0..tables.len(HELD) {
         release_at(tables, at);
@@ -100,13 +100,13 @@ fn release_held(tables: &mut Tables)
 }
 
 fn release_at(tables: &mut Tables, at: u32)
-    requires lists { HasLists (kept tables.old) }
-    requires at { at < (held_in (kept tables.old)).count }
-    requires room { length (ready_by (kept tables.old)) + length (if_any (symbol_at (held_in (kept tables.old)) at)) ≤ (ready_in (kept tables.old)).capacity }
-    ensures kept { KeepsLists (kept tables.old) (kept tables.new) }
-    ensures stack { stack_in (kept tables.new) ≡ stack_in (kept tables.old) }
-    ensures held { held_in (kept tables.new) ≡ held_in (kept tables.old) }
-    ensures ready { ready_by (kept tables.new) ≡ ready_by (kept tables.old) ++ if_any (symbol_at (held_in (kept tables.old)) at) }
+    requires lists { HasLists (tables_model tables.old) }
+    requires at { at < (held_in (tables_model tables.old)).count }
+    requires room { length (ready_by (tables_model tables.old)) + length (if_any (symbol_at (held_in (tables_model tables.old)) at)) ≤ (ready_in (tables_model tables.old)).capacity }
+    ensures kept { KeepsLists (tables_model tables.old) (tables_model tables.new) }
+    ensures stack { stack_in (tables_model tables.new) ≡ stack_in (tables_model tables.old) }
+    ensures held { held_in (tables_model tables.new) ≡ held_in (tables_model tables.old) }
+    ensures ready { ready_by (tables_model tables.new) ≡ ready_by (tables_model tables.old) ++ if_any (symbol_at (held_in (tables_model tables.old)) at) }
 {
     if let Some(symbol) = held_at(tables, at) {
         ready(tables, symbol);

@@ -3,8 +3,8 @@ ghost use Rattle.std.specs.Prelude.{◌≡◌, ◌≤◌, ◌<◌, ◌+◌, ◌*
 ghost use Rattle.gier_symbol.specs.Symbols.{IsSymbol};
 ghost use Rattle.gier_symbol.specs.Tags.{number_of};
 ghost use Rattle.gier_symbol.specs.Texts.{stands_in};
-ghost use Rattle.gier_text.specs.Growth.{weight_of, is_numbered};
-ghost use Rattle.gier_text.specs.Kept.{kept, fresh};
+ghost use Rattle.gier_text.specs.Potential.{potential_of, is_numbered};
+ghost use Rattle.gier_text.specs.TablesModel.{tables_model, fresh};
 ghost use Rattle.gier_pass3.specs.Items.{credit_of, mark_of, mark_symbol, line_by, opened_by};
 ghost use Rattle.gier_tree.specs.Signs.{sign_of, sign_tag};
 ghost use Rattle.gier_pass3.specs.Rules.{cost_of, costs, left_after, price, tag_of, wants_of};
@@ -73,7 +73,7 @@ fn symbol_of(mark: Mark, line: u32) -> Symbol
     requires { line < 2 ^ 24 }
     ensures value { result ≡ mark_symbol mark line }
     ensures fit { (bytes : ℕ) → IsFit 3 bytes result }
-    ensures weight { weight_of 3 result.tag ≡ 1 }
+    ensures potential { potential_of 3 result.tag ≡ 1 }
 {
     match mark {
         Mark::Open(construct) => Symbol::new(Tag::OpenMark, construct.number(), line),
@@ -86,7 +86,7 @@ fn symbol_of(mark: Mark, line: u32) -> Symbol
 fn in_role(role: Role, s: Symbol) -> Symbol
     requires symbol { IsSymbol s }
     ensures fit { (bytes : ℕ) → IsFit 2 bytes s → IsFit 3 bytes result }
-    ensures weight { weight_of 3 result.tag ≡ weight_of 3 (number_of (tag_of role)) }
+    ensures potential { potential_of 3 result.tag ≡ potential_of 3 (number_of (tag_of role)) }
 {
     Symbol::new(role.tag(), name_number(s), s.line)
 }
@@ -94,12 +94,12 @@ fn in_role(role: Role, s: Symbol) -> Symbol
 impl Pass3 {
     /// The pass over text 2 of a program of so many bytes. The tables must be cleared and hold no fault.
     pub fn open(tables: &mut Tables, bytes: u32) -> Pass3
-        requires cleared { kept tables.old ≡ fresh (kept tables.old).limit }
-        requires bytes { bytes ≤ (kept tables.old).limit }
-        ensures stands { Stands result (kept tables.new) [] [] }
+        requires cleared { tables_model tables.old ≡ fresh (tables_model tables.old).limit }
+        requires bytes { bytes ≤ (tables_model tables.old).limit }
+        ensures stands { Stands result (tables_model tables.new) [] [] }
         ensures bytes { result.bytes ≡ bytes }
-        ensures faults { (kept tables.new).faults ≡ [] }
-        ensures limit { (kept tables.new).limit ≡ (kept tables.old).limit }
+        ensures faults { (tables_model tables.new).faults ≡ [] }
+        ensures limit { (tables_model tables.new).limit ≡ (tables_model tables.old).limit }
     {
         open_lists(tables, bytes);
         push(tables, Item::TextEnd, 0);
@@ -118,16 +118,16 @@ impl Pass3 {
 
     // Takes a symbol, unless the fault was found.
     fn step(&mut self, s: Symbol, tables: &mut Tables)
-        requires ready { IsReady self.old (kept tables.old) }
-        requires light { load self.old (kept tables.old) ≤ 8 * self.old.read + 2 }
+        requires ready { IsReady self.old (tables_model tables.old) }
+        requires light { load self.old (tables_model tables.old) ≤ 8 * self.old.read + 2 }
         requires more { self.old.read ≤ self.old.bytes }
         requires symbol { IsFit 2 self.old.bytes s }
-        ensures steps { Steps self.old self.new (kept tables.old) (kept tables.new) }
+        ensures steps { Steps self.old self.new (tables_model tables.old) (tables_model tables.new) }
         ensures stays { self.old.stopped ≡ true
-            → (self.new.stopped ≡ true) × ((kept tables.new).faults ≡ (kept tables.old).faults) }
-        ensures told { self.old.stopped ≡ false → (kept tables.new).faults ≡ faults_of self.new.stopped self.old.read s.line }
-        ensures follows { self.old.stopped ≡ false → IsBare s → HasItems (kept tables.old)
-            → Follows self.new.stopped s (kept tables.old) (kept tables.new) }
+            → (self.new.stopped ≡ true) × ((tables_model tables.new).faults ≡ (tables_model tables.old).faults) }
+        ensures told { self.old.stopped ≡ false → (tables_model tables.new).faults ≡ faults_of self.new.stopped self.old.read s.line }
+        ensures follows { self.old.stopped ≡ false → IsBare s → HasItems (tables_model tables.old)
+            → Follows self.new.stopped s (tables_model tables.old) (tables_model tables.new) }
     {
         if !self.stopped {
             if let Some(kind) = Tag::of(s.tag) {
@@ -139,15 +139,15 @@ impl Pass3 {
 
     // What is wanted next takes the symbol, or there is a fault.
     fn meet(&mut self, kind: Tag, s: Symbol, tables: &mut Tables)
-        requires holds { Holds self.old (kept tables.old) }
-        requires room { HasRoom 8 12 self.old (kept tables.old) }
-        requires none { (kept tables.old).faults ≡ [] }
+        requires holds { Holds self.old (tables_model tables.old) }
+        requires room { HasRoom 8 12 self.old (tables_model tables.old) }
+        requires none { (tables_model tables.old).faults ≡ [] }
         requires going { self.old.stopped ≡ false }
         requires symbol { IsFit 2 self.old.bytes s }
-        ensures meets { Meets self.old self.new (kept tables.old) (kept tables.new) }
-        ensures faults { (kept tables.new).faults ≡ faults_of self.new.stopped self.old.read s.line }
-        ensures follows { sign_tag (sign_of s) ≡ kind → HasItems (kept tables.old)
-            → Follows self.new.stopped s (kept tables.old) (kept tables.new) }
+        ensures meets { Meets self.old self.new (tables_model tables.old) (tables_model tables.new) }
+        ensures faults { (tables_model tables.new).faults ≡ faults_of self.new.stopped self.old.read s.line }
+        ensures follows { sign_tag (sign_of s) ≡ kind → HasItems (tables_model tables.old)
+            → Follows self.new.stopped s (tables_model tables.old) (tables_model tables.new) }
     {
         let mut opened = false;
         while let Some(wanted) = pop(tables) {
@@ -170,11 +170,11 @@ impl Pass3 {
 
     // No program goes on with a symbol of this line.
     fn fail(&mut self, line: u32, tables: &mut Tables)
-        requires holds { Holds self.old (kept tables.old) }
-        requires none { (kept tables.old).faults ≡ [] }
-        ensures meets { Meets self.old self.new (kept tables.old) (kept tables.new) }
+        requires holds { Holds self.old (tables_model tables.old) }
+        requires none { (tables_model tables.old).faults ≡ [] }
+        ensures meets { Meets self.old self.new (tables_model tables.old) (tables_model tables.new) }
         ensures stopped { self.new.stopped ≡ true }
-        ensures faults { (kept tables.new).faults ≡ faults_of true self.old.read line }
+        ensures faults { (tables_model tables.new).faults ≡ faults_of true self.old.read line }
     {
         self.stopped = true;
         tables.add_fault(Fault {
@@ -186,15 +186,15 @@ impl Pass3 {
 
     // A rule takes the symbol.
     fn take_by(&mut self, rule: Rule, left: u64, s: Symbol, tables: &mut Tables)
-        requires holds { Holds self.old (kept tables.old) }
-        requires room { HasRoom (price rule) 12 self.old (kept tables.old) }
+        requires holds { Holds self.old (tables_model tables.old) }
+        requires room { HasRoom (price rule) 12 self.old (tables_model tables.old) }
         requires small { left < 2 ^ 32 }
         requires symbol { IsFit 2 self.old.bytes s }
-        ensures moves { Moves (price rule) 12 self.old self.new (kept tables.old) (kept tables.new) }
-        ensures read { wanted_in (kept tables.new)
-            ≡ all_above (wants_of rule) (left_after rule left) (wanted_in (kept tables.old)) }
-        ensures items { HasItems (kept tables.old)
-            → AreAbove (wants_of rule) (left_after rule left) (wanted_in (kept tables.old)) → HasItems (kept tables.new) }
+        ensures moves { Moves (price rule) 12 self.old self.new (tables_model tables.old) (tables_model tables.new) }
+        ensures read { wanted_in (tables_model tables.new)
+            ≡ all_above (wants_of rule) (left_after rule left) (wanted_in (tables_model tables.old)) }
+        ensures items { HasItems (tables_model tables.old)
+            → AreAbove (wants_of rule) (left_after rule left) (wanted_in (tables_model tables.old)) → HasItems (tables_model tables.new) }
     {
         self.apply(rule.acts(), s, tables);
         push_wanted(tables, rule, left);
@@ -204,12 +204,12 @@ impl Pass3 {
     // Writes what an item that is passed writes: a mark, or what was held for it. Tells whether a construct was opened
     // before this symbol, and has none.
     fn pass_by(&mut self, item: Item, here: u32, opened: bool, tables: &mut Tables) -> bool
-        requires holds { Holds self.old (kept tables.old) }
-        requires room { HasRoom (credit_of item) 0 self.old (kept tables.old) }
+        requires holds { Holds self.old (tables_model tables.old) }
+        requires room { HasRoom (credit_of item) 0 self.old (tables_model tables.old) }
         requires here { here < 2 ^ 24 }
-        ensures moves { Moves (credit_of item) 0 self.old self.new (kept tables.old) (kept tables.new) }
+        ensures moves { Moves (credit_of item) 0 self.old self.new (tables_model tables.old) (tables_model tables.new) }
         ensures opened { result ≡ opened_by (mark_of item) opened }
-        ensures stack { stack_in (kept tables.new) ≡ stack_in (kept tables.old) }
+        ensures stack { stack_in (tables_model tables.new) ≡ stack_in (tables_model tables.old) }
     {
         if let Some(mark) = item.mark() {
             return self.write_mark(mark, here, opened, tables);
@@ -224,12 +224,12 @@ impl Pass3 {
     }
 
     fn write_mark(&mut self, mark: Mark, here: u32, opened: bool, tables: &mut Tables) -> bool
-        requires holds { Holds self.old (kept tables.old) }
-        requires room { HasRoom 1 0 self.old (kept tables.old) }
+        requires holds { Holds self.old (tables_model tables.old) }
+        requires room { HasRoom 1 0 self.old (tables_model tables.old) }
         requires here { here < 2 ^ 24 }
-        ensures moves { Moves 1 0 self.old self.new (kept tables.old) (kept tables.new) }
+        ensures moves { Moves 1 0 self.old self.new (tables_model tables.old) (tables_model tables.new) }
         ensures opened { result ≡ opened_by (Some mark) opened }
-        ensures stack { stack_in (kept tables.new) ≡ stack_in (kept tables.old) }
+        ensures stack { stack_in (tables_model tables.new) ≡ stack_in (tables_model tables.old) }
     {
         let line = self.line_of(mark, here, opened);
         self.write(symbol_of(mark, line), tables);
@@ -254,11 +254,11 @@ impl Pass3 {
 
     // Does with the symbol what the acts tell, in order.
     fn apply(&mut self, acts: &[Act], s: Symbol, tables: &mut Tables)
-        requires holds { Holds self.old (kept tables.old) }
-        requires room { HasRoom (costs acts.now) 0 self.old (kept tables.old) }
+        requires holds { Holds self.old (tables_model tables.old) }
+        requires room { HasRoom (costs acts.now) 0 self.old (tables_model tables.old) }
         requires symbol { IsFit 2 self.old.bytes s }
-        ensures moves { Moves (costs acts.now) 0 self.old self.new (kept tables.old) (kept tables.new) }
-        ensures stack { stack_in (kept tables.new) ≡ stack_in (kept tables.old) }
+        ensures moves { Moves (costs acts.now) 0 self.old self.new (tables_model tables.old) (tables_model tables.new) }
+        ensures stack { stack_in (tables_model tables.new) ≡ stack_in (tables_model tables.old) }
     {
         for act in acts {
             self.act(*act, s, tables);
@@ -266,11 +266,11 @@ impl Pass3 {
     }
 
     fn act(&mut self, act: Act, s: Symbol, tables: &mut Tables)
-        requires holds { Holds self.old (kept tables.old) }
-        requires room { HasRoom (cost_of act) 0 self.old (kept tables.old) }
+        requires holds { Holds self.old (tables_model tables.old) }
+        requires room { HasRoom (cost_of act) 0 self.old (tables_model tables.old) }
         requires symbol { IsFit 2 self.old.bytes s }
-        ensures moves { Moves (cost_of act) 0 self.old self.new (kept tables.old) (kept tables.new) }
-        ensures stack { stack_in (kept tables.new) ≡ stack_in (kept tables.old) }
+        ensures moves { Moves (cost_of act) 0 self.old self.new (tables_model tables.old) (tables_model tables.new) }
+        ensures stack { stack_in (tables_model tables.new) ≡ stack_in (tables_model tables.old) }
     {
         match act {
             Act::Open(construct) => self.open_before(construct, s.line, tables),
@@ -287,31 +287,31 @@ impl Pass3 {
 
     // Makes a symbol ready.
     fn write(&mut self, s: Symbol, tables: &mut Tables)
-        requires holds { Holds self.old (kept tables.old) }
-        requires room { HasRoom (weight_of 3 s.tag) 0 self.old (kept tables.old) }
+        requires holds { Holds self.old (tables_model tables.old) }
+        requires room { HasRoom (potential_of 3 s.tag) 0 self.old (tables_model tables.old) }
         requires fit { IsFit 3 self.old.bytes s }
-        ensures moves { Moves (weight_of 3 s.tag) 0 self.old self.new (kept tables.old) (kept tables.new) }
-        ensures stack { stack_in (kept tables.new) ≡ stack_in (kept tables.old) }
+        ensures moves { Moves (potential_of 3 s.tag) 0 self.old self.new (tables_model tables.old) (tables_model tables.new) }
+        ensures stack { stack_in (tables_model tables.new) ≡ stack_in (tables_model tables.old) }
     {
         ready(tables, s);
     }
 
     fn hold(&mut self, s: Symbol, tables: &mut Tables)
-        requires holds { Holds self.old (kept tables.old) }
-        requires room { HasRoom (weight_of 3 s.tag) 0 self.old (kept tables.old) }
+        requires holds { Holds self.old (tables_model tables.old) }
+        requires room { HasRoom (potential_of 3 s.tag) 0 self.old (tables_model tables.old) }
         requires fit { IsFit 3 self.old.bytes s }
-        ensures moves { Moves (weight_of 3 s.tag) 0 self.old self.new (kept tables.old) (kept tables.new) }
-        ensures stack { stack_in (kept tables.new) ≡ stack_in (kept tables.old) }
+        ensures moves { Moves (potential_of 3 s.tag) 0 self.old self.new (tables_model tables.old) (tables_model tables.new) }
+        ensures stack { stack_in (tables_model tables.new) ≡ stack_in (tables_model tables.old) }
     {
         hold(tables, s);
     }
 
     // Makes all that is held ready.
     fn release(&mut self, tables: &mut Tables)
-        requires holds { Holds self.old (kept tables.old) }
-        requires room { HasRoom 0 0 self.old (kept tables.old) }
-        ensures moves { Moves 0 0 self.old self.new (kept tables.old) (kept tables.new) }
-        ensures stack { stack_in (kept tables.new) ≡ stack_in (kept tables.old) }
+        requires holds { Holds self.old (tables_model tables.old) }
+        requires room { HasRoom 0 0 self.old (tables_model tables.old) }
+        ensures moves { Moves 0 0 self.old self.new (tables_model tables.old) (tables_model tables.new) }
+        ensures stack { stack_in (tables_model tables.new) ≡ stack_in (tables_model tables.old) }
     {
         release_all(tables, self.name);
         self.name = None;
@@ -319,11 +319,11 @@ impl Pass3 {
 
     // Opens a construct before the first symbol that is held, or at this line.
     fn open_before(&mut self, construct: Construct, line: u32, tables: &mut Tables)
-        requires holds { Holds self.old (kept tables.old) }
-        requires room { HasRoom 1 0 self.old (kept tables.old) }
+        requires holds { Holds self.old (tables_model tables.old) }
+        requires room { HasRoom 1 0 self.old (tables_model tables.old) }
         requires line { line < 2 ^ 24 }
-        ensures moves { Moves 1 0 self.old self.new (kept tables.old) (kept tables.new) }
-        ensures stack { stack_in (kept tables.new) ≡ stack_in (kept tables.old) }
+        ensures moves { Moves 1 0 self.old self.new (tables_model tables.old) (tables_model tables.new) }
+        ensures stack { stack_in (tables_model tables.new) ≡ stack_in (tables_model tables.old) }
     {
         let first = first_line(tables, self.name, line);
         self.write(symbol_of(Mark::Open(construct), first), tables);
@@ -331,11 +331,11 @@ impl Pass3 {
 
     // Writes the number of an own quantity, which is the next one.
     fn write_own(&mut self, line: u32, tables: &mut Tables)
-        requires holds { Holds self.old (kept tables.old) }
-        requires room { HasRoom 1 0 self.old (kept tables.old) }
+        requires holds { Holds self.old (tables_model tables.old) }
+        requires room { HasRoom 1 0 self.old (tables_model tables.old) }
         requires line { line < 2 ^ 24 }
-        ensures moves { Moves 1 0 self.old self.new (kept tables.old) (kept tables.new) }
-        ensures stack { stack_in (kept tables.new) ≡ stack_in (kept tables.old) }
+        ensures moves { Moves 1 0 self.old self.new (tables_model tables.old) (tables_model tables.new) }
+        ensures stack { stack_in (tables_model tables.new) ≡ stack_in (tables_model tables.old) }
     {
         self.write(
             Symbol::new(Tag::OwnNumber, u64::from(self.owns), line),
@@ -346,11 +346,11 @@ impl Pass3 {
 
     // Writes the end with the number of own quantities.
     fn write_end(&mut self, line: u32, tables: &mut Tables)
-        requires holds { Holds self.old (kept tables.old) }
-        requires room { HasRoom 5 0 self.old (kept tables.old) }
+        requires holds { Holds self.old (tables_model tables.old) }
+        requires room { HasRoom 5 0 self.old (tables_model tables.old) }
         requires line { line < 2 ^ 24 }
-        ensures moves { Moves 5 0 self.old self.new (kept tables.old) (kept tables.new) }
-        ensures stack { stack_in (kept tables.new) ≡ stack_in (kept tables.old) }
+        ensures moves { Moves 5 0 self.old self.new (tables_model tables.old) (tables_model tables.new) }
+        ensures stack { stack_in (tables_model tables.new) ≡ stack_in (tables_model tables.old) }
     {
         self.write(
             Symbol::new(Tag::TextEnd, u64::from(self.owns), line),
@@ -360,11 +360,11 @@ impl Pass3 {
 
     // Holds the identifier as a label, with the symbol as its colon.
     fn hold_label(&mut self, colon: Symbol, tables: &mut Tables)
-        requires holds { Holds self.old (kept tables.old) }
-        requires room { HasRoom 1 0 self.old (kept tables.old) }
+        requires holds { Holds self.old (tables_model tables.old) }
+        requires room { HasRoom 1 0 self.old (tables_model tables.old) }
         requires symbol { IsFit 2 self.old.bytes colon }
-        ensures moves { Moves 1 0 self.old self.new (kept tables.old) (kept tables.new) }
-        ensures stack { stack_in (kept tables.new) ≡ stack_in (kept tables.old) }
+        ensures moves { Moves 1 0 self.old self.new (tables_model tables.old) (tables_model tables.new) }
+        ensures stack { stack_in (tables_model tables.new) ≡ stack_in (tables_model tables.old) }
     {
         if let Some(name) = self.name {
             self.name = None;
@@ -376,10 +376,10 @@ impl Pass3 {
 
 // Opens the three lists.
 fn open_lists(tables: &mut Tables, bytes: u32)
-    requires cleared { kept tables.old ≡ fresh (kept tables.old).limit }
-    requires bytes { bytes ≤ (kept tables.old).limit }
-    requires limit { (kept tables.old).limit ≤ 2 ^ 19 }
-    ensures { Opens bytes (kept tables.old) (kept tables.new) }
+    requires cleared { tables_model tables.old ≡ fresh (tables_model tables.old).limit }
+    requires bytes { bytes ≤ (tables_model tables.old).limit }
+    requires limit { (tables_model tables.old).limit ≤ 2 ^ 19 }
+    ensures { Opens bytes (tables_model tables.old) (tables_model tables.new) }
 {
     tables.list(STACK_WIDTH, ITEMS_EACH * bytes + FIRST_ITEMS);
     tables.list(OUTBOX_WIDTH, WRITTEN_EACH * bytes + LAST_WRITTEN);
@@ -405,9 +405,9 @@ impl Pass for Pass3 {
 
     ghost GROWTH = { 8 };
 
-    ghost stands = { λ pass tables read written. Stands pass (kept tables) read written };
+    ghost stands = { λ pass tables read written. Stands pass (tables_model tables) read written };
 
-    ghost relates = { λ pass tables read written. Relates pass (kept tables) read written };
+    ghost relates = { λ pass tables read written. Relates pass (tables_model tables) read written };
 
     ghost expects = { λ pass list. IsTextTwo pass.bytes list };
 

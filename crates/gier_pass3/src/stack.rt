@@ -1,6 +1,6 @@
 // The stack of what is wanted next, a list of the tables. The next item is last.
 ghost use Rattle.std.specs.Prelude.{◌≡◌, ◌≤◌, ◌<◌, ◌+◌, ◌*◌, ◌/◌, ◌^◌, ◌%◌, length, IfSome, Some};
-ghost use Rattle.gier_text.specs.Kept.{kept};
+ghost use Rattle.gier_text.specs.TablesModel.{tables_model};
 ghost use Rattle.gier_pass3.specs.Items.{credit_at, credit_of, credits};
 ghost use Rattle.gier_pass3.specs.Rules.{wants_of, left_after};
 ghost use Rattle.gier_pass3.specs.declared.item.Item.{Item};
@@ -49,16 +49,16 @@ fn unfold(word: u64) -> Option<Wanted>
 
 /// Takes the next item away, or gives None where the stack is empty.
 pub fn pop(tables: &mut Tables) -> Option<Wanted>
-    requires lists { HasLists (kept tables.old) }
-    ensures kept { KeepsLists (kept tables.old) (kept tables.new) }
-    ensures held { held_in (kept tables.new) ≡ held_in (kept tables.old) }
-    ensures ready { ready_in (kept tables.new) ≡ ready_in (kept tables.old) }
-    ensures less { IfSome result (λ wanted. depth (kept tables.new) < depth (kept tables.old)) }
-    ensures paid { IfSome result (λ wanted. credit (kept tables.new) + credit_of wanted.item ≤ credit (kept tables.old)) }
+    requires lists { HasLists (tables_model tables.old) }
+    ensures kept { KeepsLists (tables_model tables.old) (tables_model tables.new) }
+    ensures held { held_in (tables_model tables.new) ≡ held_in (tables_model tables.old) }
+    ensures ready { ready_in (tables_model tables.new) ≡ ready_in (tables_model tables.old) }
+    ensures less { IfSome result (λ wanted. depth (tables_model tables.new) < depth (tables_model tables.old)) }
+    ensures paid { IfSome result (λ wanted. credit (tables_model tables.new) + credit_of wanted.item ≤ credit (tables_model tables.old)) }
     ensures small { IfSome result (λ wanted. wanted.left < 2 ^ 32) }
-    ensures depth { depth (kept tables.new) ≤ depth (kept tables.old) }
-    ensures credit { credit (kept tables.new) ≤ credit (kept tables.old) }
-    ensures read { HasItems (kept tables.old) → Pops (wanted_in (kept tables.old)) result (kept tables.new) }
+    ensures depth { depth (tables_model tables.new) ≤ depth (tables_model tables.old) }
+    ensures credit { credit (tables_model tables.new) ≤ credit (tables_model tables.old) }
+    ensures read { HasItems (tables_model tables.old) → Pops (wanted_in (tables_model tables.old)) result (tables_model tables.new) }
 {
     let depth = tables.len(STACK);
     if depth == 0 {
@@ -72,17 +72,17 @@ pub fn pop(tables: &mut Tables) -> Option<Wanted>
 /// Puts what the rule wants on the stack. `left` is how many pairs of constants could follow where it was applied.
 #[tactic(auto, using(crate::proofs::Credit::credits_back))]
 pub fn push_wanted(tables: &mut Tables, rule: Rule, left: u64)
-    requires lists { HasLists (kept tables.old) }
-    requires room { depth (kept tables.old) + length (wants_of rule) ≤ (stack_in (kept tables.old)).capacity }
+    requires lists { HasLists (tables_model tables.old) }
+    requires room { depth (tables_model tables.old) + length (wants_of rule) ≤ (stack_in (tables_model tables.old)).capacity }
     requires small { left < 2 ^ 32 }
-    ensures kept { KeepsLists (kept tables.old) (kept tables.new) }
-    ensures held { held_in (kept tables.new) ≡ held_in (kept tables.old) }
-    ensures ready { ready_in (kept tables.new) ≡ ready_in (kept tables.old) }
-    ensures depth { depth (kept tables.new) ≡ depth (kept tables.old) + length (wants_of rule) }
-    ensures credit { credit (kept tables.new) ≡ credit (kept tables.old) + credits (wants_of rule) }
-    ensures read { wanted_in (kept tables.new) ≡ all_above (wants_of rule) (left_after rule left) (wanted_in (kept tables.old)) }
-    ensures items { HasItems (kept tables.old)
-        → AreAbove (wants_of rule) (left_after rule left) (wanted_in (kept tables.old)) → HasItems (kept tables.new) }
+    ensures kept { KeepsLists (tables_model tables.old) (tables_model tables.new) }
+    ensures held { held_in (tables_model tables.new) ≡ held_in (tables_model tables.old) }
+    ensures ready { ready_in (tables_model tables.new) ≡ ready_in (tables_model tables.old) }
+    ensures depth { depth (tables_model tables.new) ≡ depth (tables_model tables.old) + length (wants_of rule) }
+    ensures credit { credit (tables_model tables.new) ≡ credit (tables_model tables.old) + credits (wants_of rule) }
+    ensures read { wanted_in (tables_model tables.new) ≡ all_above (wants_of rule) (left_after rule left) (wanted_in (tables_model tables.old)) }
+    ensures items { HasItems (tables_model tables.old)
+        → AreAbove (wants_of rule) (left_after rule left) (wanted_in (tables_model tables.old)) → HasItems (tables_model tables.new) }
 {
     let left = left_after(rule, left);
     let items = rule.wants();
@@ -119,16 +119,16 @@ fn fold(item: Item, left: u64) -> u64
 
 /// Puts an item on the stack.
 pub fn push(tables: &mut Tables, item: Item, left: u64)
-    requires lists { HasLists (kept tables.old) }
-    requires room { depth (kept tables.old) < (stack_in (kept tables.old)).capacity }
+    requires lists { HasLists (tables_model tables.old) }
+    requires room { depth (tables_model tables.old) < (stack_in (tables_model tables.old)).capacity }
     requires small { left < 2 ^ 32 }
-    ensures kept { KeepsLists (kept tables.old) (kept tables.new) }
-    ensures held { held_in (kept tables.new) ≡ held_in (kept tables.old) }
-    ensures ready { ready_in (kept tables.new) ≡ ready_in (kept tables.old) }
-    ensures depth { depth (kept tables.new) ≡ depth (kept tables.old) + 1 }
-    ensures credit { credit (kept tables.new) ≡ credit (kept tables.old) + credit_of item }
-    ensures read { wanted_in (kept tables.new) ≡ wanted_above item left (wanted_in (kept tables.old)) }
-    ensures items { HasItems (kept tables.old) → IsAbove item (wanted_in (kept tables.old)) → HasItems (kept tables.new) }
+    ensures kept { KeepsLists (tables_model tables.old) (tables_model tables.new) }
+    ensures held { held_in (tables_model tables.new) ≡ held_in (tables_model tables.old) }
+    ensures ready { ready_in (tables_model tables.new) ≡ ready_in (tables_model tables.old) }
+    ensures depth { depth (tables_model tables.new) ≡ depth (tables_model tables.old) + 1 }
+    ensures credit { credit (tables_model tables.new) ≡ credit (tables_model tables.old) + credit_of item }
+    ensures read { wanted_in (tables_model tables.new) ≡ wanted_above item left (wanted_in (tables_model tables.old)) }
+    ensures items { HasItems (tables_model tables.old) → IsAbove item (wanted_in (tables_model tables.old)) → HasItems (tables_model tables.new) }
 {
     let word = fold(item, left);
     tables.push(STACK, &[word]);

@@ -1,4 +1,4 @@
 pub mod Weights
-pub mod Replaced
-pub mod Opened
-pub mod Going
+pub mod ListReplacement
+pub mod OpenedLists
+pub mod InvariantSteps

@@ -4,8 +4,8 @@ use Rattle.gier_symbol.specs.declared.tag.Tag.{Tag}
 use Rattle.gier_symbol.specs.declared.tag.Tag.TheVariants.{Integer as IntegerWord, Boolean as BooleanWord, Array as ArrayWord, Switch as SwitchWord, Procedure as ProcedureWord, String as StringWord, Label as LabelWord}
 use Rattle.gier_tree.specs.declared.kind.Kind.{Kind}
 use Rattle.gier_tree.specs.declared.kind.Kind.TheVariants.{IntegerVariable, BooleanVariable, IntegerArray, BooleanArray, Procedure, IntegerProcedure, BooleanProcedure, IntegerValue, BooleanValue, IntegerFormal, BooleanFormal, IntegerArrayFormal, BooleanArrayFormal, LabelFormal, SwitchFormal, StringFormal, ProcedureFormal, IntegerProcedureFormal, BooleanProcedureFormal}
-use Rattle.gier_pass4.specs.declared.marks.Place.{Place}
-use Rattle.gier_pass4.specs.declared.marks.Place.TheVariants.{TypeDeclaration as InType, Heading}
+use Rattle.gier_pass4.specs.declared.marks.ParseState.{ParseState}
+use Rattle.gier_pass4.specs.declared.marks.ParseState.TheVariants.{TypeDeclaration as InType, Heading}
 use Rattle.gier_pass4.specs.declared.owns.Frame.{Frame}
 use Rattle.gier_pass4.specs.declared.owns.Frame.TheVariants.{Beginning}
 use Rattle.gier_pass4.specs.declared.owns.Owned.{Owned}
@@ -51,10 +51,10 @@ typed_by one other behind BooleanWord = other
 typed_by one other behind _ = behind
 
 -- the kind that a word gives to the identifiers behind it
-abbrev pub worded : Place → Kind → Tag → Kind
-worded Heading behind given = specified_by behind given
-worded InType behind given = typed_by IntegerVariable BooleanVariable behind given
-worded place behind given = typed_by IntegerArray BooleanArray behind given
+abbrev pub kind_by_word : ParseState → Kind → Tag → Kind
+kind_by_word Heading behind given = specified_by behind given
+kind_by_word InType behind given = typed_by IntegerVariable BooleanVariable behind given
+kind_by_word place behind given = typed_by IntegerArray BooleanArray behind given
 
 -- whether it is known of a declaration that it is an own one, where it begins at its end
 abbrev pub owned_at : Frame → Owned → Owned

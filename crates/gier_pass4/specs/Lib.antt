@@ -1,3 +1,3 @@
 pub mod Kinds
 pub mod Lists
-pub mod Standing
+pub mod Invariant

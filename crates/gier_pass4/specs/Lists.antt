@@ -5,10 +5,10 @@ use Rattle.std.specs.Prelude.{◌≡◌, ◌≢◌, ◌<◌, ◌≤◌, ◌+◌,
 use Rattle.gier_symbol.specs.declared.symbol.Symbol.{Symbol}
 use Rattle.gier_symbol.specs.Symbols.{IsSymbol}
 use Rattle.gier_symbol.specs.Texts.{stands_in}
-use Rattle.gier_text.specs.Growth.{is_numbered, weight}
-use Rattle.gier_text.specs.Kept.{Kept}
+use Rattle.gier_text.specs.Potential.{is_numbered, potential}
+use Rattle.gier_text.specs.TablesModel.{TablesModel}
 use Rattle.gier_text.specs.Lists.{TableList, list_at}
-use Rattle.gier_text.specs.Outbox.{waiting, waiting_until}
+use Rattle.gier_text.specs.Outbox.{outbox_symbols, outbox_symbols_until}
 
 -- a symbol of text 4; where it is an identifier's, the number is small
 pub record IsLetter (bytes : ℕ) (s : Symbol) : Type 0 where
@@ -28,15 +28,15 @@ room_of bytes list =
 pub record IsQueue (bytes : ℕ) (list : TableList) (room : ℕ) : Type 0 where
   pub width : list.width ≡ 2
   pub capacity : list.capacity ≡ room
-  pub whole : length (waiting list) ≡ list.count
-  pub letters : All (IsLetter bytes) (waiting list)
+  pub whole : length (outbox_symbols list) ≡ list.count
+  pub letters : All (IsLetter bytes) (outbox_symbols list)
 
 pub record IsTable (list : TableList) (words room : ℕ) : Type 0 where
   pub width : list.width ≡ words
   pub capacity : list.capacity ≡ room
 
 -- there are these lists, and at least one cell
-pub record HasLists (bytes : ℕ) (t : Kept) : Type 0 where
+pub record HasLists (bytes : ℕ) (t : TablesModel) : Type 0 where
   pub number : length t.lists ≡ 8
   pub small : bytes ≤ 524288
   pub queues : (k : ℕ) → k < 5 → IsQueue bytes (list_at t.lists k) (room_of bytes k)
@@ -47,24 +47,24 @@ pub record HasLists (bytes : ℕ) (t : Kept) : Type 0 where
   pub rows : IsTable (list_at t.lists 7) 2 (bytes + 64)
 
 -- what the symbols weigh that wait in a list
-abbrev pub load : Kept → ℕ → ℕ
-load t list = weight 4 (waiting (list_at t.lists list))
+abbrev pub potential_stored : TablesModel → ℕ → ℕ
+potential_stored t list = potential 4 (outbox_symbols (list_at t.lists list))
 
 -- one list becomes so much heavier, and no other changes
-pub record Adds (list w : ℕ) (old new : Kept) : Type 0 where
-  pub more : load new list ≡ load old list + w
+pub record Adds (list w : ℕ) (old new : TablesModel) : Type 0 where
+  pub more : potential_stored new list ≡ potential_stored old list + w
   pub others : (k : ℕ) → k ≢ list → list_at new.lists k ≡ list_at old.lists k
   pub limit : new.limit ≡ old.limit
 
 -- what waits at a place of one list is put into another too, which becomes so much heavier
-pub record Copies (from to w : ℕ) (old new : Kept) : Type 0 where
-  pub more : load new to ≡ load old to + w
+pub record Copies (from to w : ℕ) (old new : TablesModel) : Type 0 where
+  pub more : potential_stored new to ≡ potential_stored old to + w
   pub source : list_at new.lists from ≡ list_at old.lists from
-  pub others : (k : ℕ) → k ≢ to → load new k ≡ load old k
+  pub others : (k : ℕ) → k ≢ to → potential_stored new k ≡ potential_stored old k
   pub limit : new.limit ≡ old.limit
 
 -- a list of scopes, cells or rows gets entries, and nothing else changes
-pub record Fills (list : ℕ) (old new : Kept) : Type 0 where
+pub record Fills (list : ℕ) (old new : TablesModel) : Type 0 where
   pub number : length new.lists ≡ length old.lists
   pub width : (list_at new.lists list).width ≡ (list_at old.lists list).width
   pub capacity : (list_at new.lists list).capacity ≡ (list_at old.lists list).capacity
@@ -79,22 +79,22 @@ empty_list width capacity = record { width = width; capacity = capacity; count =
 abbrev pub queues : ℕ → List TableList
 queues bytes = empty_list 2 (8 * bytes + 64) ∷ empty_list 2 (6 * bytes + 48) ∷ empty_list 2 (4 * bytes + 32) ∷ empty_list 2 (8 * bytes + 64) ∷ empty_list 2 (2 * bytes + 16) ∷ []
 
-abbrev pub opened : ℕ → List TableList
-opened bytes = queues bytes ++ empty_list 1 (bytes + 2) ∷ empty_list 1 (bytes + 25) ∷ empty_list 2 (bytes + 64) ∷ []
+abbrev pub lists_when_opened : ℕ → List TableList
+lists_when_opened bytes = queues bytes ++ empty_list 1 (bytes + 2) ∷ empty_list 1 (bytes + 25) ∷ empty_list 2 (bytes + 64) ∷ []
 
 -- the symbols behind the first `base` entries of a list move to another, and no other list changes its weight
-pub record Moves (from to base : ℕ) (old new : Kept) : Type 0 where
-  pub both : load new from + load new to ≡ load old from + load old to
-  pub less : load new from ≤ load old from
-  pub rest : waiting (list_at new.lists from) ≡ waiting_until (list_at old.lists from) base
-  pub others : (k : ℕ) → k ≢ from → k ≢ to → load new k ≡ load old k
+pub record Moves (from to base : ℕ) (old new : TablesModel) : Type 0 where
+  pub both : potential_stored new from + potential_stored new to ≡ potential_stored old from + potential_stored old to
+  pub less : potential_stored new from ≤ potential_stored old from
+  pub rest : outbox_symbols (list_at new.lists from) ≡ outbox_symbols_until (list_at old.lists from) base
+  pub others : (k : ℕ) → k ≢ from → k ≢ to → potential_stored new k ≡ potential_stored old k
   pub limit : new.limit ≡ old.limit
 
 -- how much heavier each list becomes
-pub record Grows (old new : Kept) (a b c d e : ℕ) : Type 0 where
-  pub out : load new 0 ≡ load old 0 + a
-  pub entries : load new 1 ≡ load old 1 + b
-  pub own_entries : load new 2 ≡ load old 2 + c
-  pub owns : load new 3 ≡ load old 3 + d
-  pub formals : load new 4 ≡ load old 4 + e
+pub record Grows (old new : TablesModel) (a b c d e : ℕ) : Type 0 where
+  pub out : potential_stored new 0 ≡ potential_stored old 0 + a
+  pub entries : potential_stored new 1 ≡ potential_stored old 1 + b
+  pub own_entries : potential_stored new 2 ≡ potential_stored old 2 + c
+  pub owns : potential_stored new 3 ≡ potential_stored old 3 + d
+  pub formals : potential_stored new 4 ≡ potential_stored old 4 + e
   pub limit : new.limit ≡ old.limit

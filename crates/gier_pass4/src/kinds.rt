@@ -4,13 +4,13 @@
 // before them were read. Each `;` begins a cell, since one ends each declaration and specification. The first cells hold the
 // kinds themselves, each the one with its own number.
 ghost use Rattle.std.specs.Prelude.{◌≡◌, ◌<◌, ◌≤◌, length};
-ghost use Rattle.gier_text.specs.Kept.{kept};
+ghost use Rattle.gier_text.specs.TablesModel.{tables_model};
 ghost use Rattle.gier_text.specs.Lists.{list_at};
-ghost use Rattle.gier_pass4.specs.Kinds.{by_value, declared_by, integer_before, boolean_before, specified_by, typed_by, worded};
+ghost use Rattle.gier_pass4.specs.Kinds.{by_value, declared_by, integer_before, boolean_before, specified_by, typed_by, kind_by_word};
 ghost use Rattle.gier_pass4.specs.Lists.{HasLists, Fills, Grows};
 
 use crate::lists::{CELLS, Lists};
-use crate::marks::Place;
+use crate::marks::ParseState;
 use gier_symbol::Tag;
 use gier_text::Tables;
 use gier_tree::Kind;
@@ -79,12 +79,12 @@ fn specified(behind: Kind, word: Tag) -> Kind
 }
 
 /// The kind that a word gives to the identifiers behind it, where the words between gave this one.
-pub(crate) fn with_word(place: Place, behind: Kind, word: Tag) -> Kind
-    ensures { result ≡ worded place behind word }
+pub(crate) fn with_word(place: ParseState, behind: Kind, word: Tag) -> Kind
+    ensures { result ≡ kind_by_word place behind word }
 {
     match place {
-        Place::Heading => specified(behind, word),
-        Place::TypeDeclaration => typed(Kind::IntegerVariable, Kind::BooleanVariable, behind, word),
+        ParseState::Heading => specified(behind, word),
+        ParseState::TypeDeclaration => typed(Kind::IntegerVariable, Kind::BooleanVariable, behind, word),
         _ => typed(Kind::IntegerArray, Kind::BooleanArray, behind, word),
     }
 }
@@ -102,12 +102,12 @@ fn typed(integer: Kind, boolean: Kind, behind: Kind, word: Tag) -> Kind
 
 /// Fills the first cells of the list, which must be empty.
 pub(crate) fn fill(tables: &mut Tables)
-    requires open { 6 < length (kept tables.old).lists }
-    requires width { (list_at (kept tables.old).lists 6).width ≡ 1 }
-    requires empty { (list_at (kept tables.old).lists 6).count ≡ 0 }
-    requires room { 23 ≤ (list_at (kept tables.old).lists 6).capacity }
-    ensures fills { Fills 6 (kept tables.old) (kept tables.new) }
-    ensures count { (list_at (kept tables.new).lists 6).count ≡ 23 }
+    requires open { 6 < length (tables_model tables.old).lists }
+    requires width { (list_at (tables_model tables.old).lists 6).width ≡ 1 }
+    requires empty { (list_at (tables_model tables.old).lists 6).count ≡ 0 }
+    requires room { 23 ≤ (list_at (tables_model tables.old).lists 6).capacity }
+    ensures fills { Fills 6 (tables_model tables.old) (tables_model tables.new) }
+    ensures count { (list_at (tables_model tables.new).lists 6).count ≡ 23 }
 {
     for kind in 0..FIXED_CELLS {
         tables.push(CELLS, &[u64::from(kind)]);
@@ -117,9 +117,9 @@ pub(crate) fn fill(tables: &mut Tables)
 impl Lists {
     /// Begins a cell. Where there is no room, the last one serves again.
     pub(crate) fn begin_cell(self, tables: &mut Tables)
-        requires { HasLists self.bytes (kept tables.old) }
-        ensures lists { HasLists self.bytes (kept tables.new) }
-        ensures grows { Grows (kept tables.old) (kept tables.new) 0 0 0 0 0 }
+        requires { HasLists self.bytes (tables_model tables.old) }
+        ensures lists { HasLists self.bytes (tables_model tables.new) }
+        ensures grows { Grows (tables_model tables.old) (tables_model tables.new) 0 0 0 0 0 }
     {
         if tables.len(CELLS) >= self.most_cells() {
             return;
@@ -129,15 +129,15 @@ impl Lists {
 
     /// The number of the last cell.
     pub(crate) fn last_cell(self, tables: &Tables) -> u32
-        requires { HasLists self.bytes (kept tables.now) }
-        ensures { result < (list_at (kept tables.now).lists 6).count }
+        requires { HasLists self.bytes (tables_model tables.now) }
+        ensures { result < (list_at (tables_model tables.now).lists 6).count }
     {
         tables.len(CELLS) - 1
     }
 
     /// What stands in a cell; Undeclared where there is no such cell, or no kind has its number.
     pub(crate) fn kind_in(self, tables: &Tables, cell: u64) -> Kind
-        requires { HasLists self.bytes (kept tables.now) }
+        requires { HasLists self.bytes (tables_model tables.now) }
     {
         if cell < u64::from(tables.len(CELLS)) {
             Kind::of(tables.word(CELLS, cell as u32, 0)).unwrap_or(Kind::Undeclared)
@@ -147,10 +147,10 @@ impl Lists {
     }
 
     /// Changes the last cell for a word that was read.
-    pub(crate) fn read_word(self, tables: &mut Tables, place: Place, word: Tag)
-        requires { HasLists self.bytes (kept tables.old) }
-        ensures lists { HasLists self.bytes (kept tables.new) }
-        ensures grows { Grows (kept tables.old) (kept tables.new) 0 0 0 0 0 }
+    pub(crate) fn read_word(self, tables: &mut Tables, place: ParseState, word: Tag)
+        requires { HasLists self.bytes (tables_model tables.old) }
+        ensures lists { HasLists self.bytes (tables_model tables.new) }
+        ensures grows { Grows (tables_model tables.old) (tables_model tables.new) 0 0 0 0 0 }
     {
         let cell = self.last_cell(tables);
         let kind = with_word(place, self.kind_in(tables, u64::from(cell)), word);

@@ -2,9 +2,9 @@
 ghost use Rattle.std.specs.Prelude.{◌≡◌, ◌<◌, ◌≤◌, ◌+◌, ◌*◌, ◌^◌, IsTrue, false, length};
 ghost use Rattle.gier_symbol.specs.Tags.{number_of};
 ghost use Rattle.gier_symbol.specs.Texts.{stands_in};
-ghost use Rattle.gier_text.specs.Growth.{is_name, is_number_in, weight_of};
-ghost use Rattle.gier_text.specs.Kept.{kept, fresh};
-ghost use Rattle.gier_pass4.specs.Lists.{HasLists, IsLetter, Adds, Grows, load, opened, queues, room_of};
+ghost use Rattle.gier_text.specs.Potential.{is_name, is_number_in, potential_of};
+ghost use Rattle.gier_text.specs.TablesModel.{tables_model, fresh};
+ghost use Rattle.gier_pass4.specs.Lists.{HasLists, IsLetter, Adds, Grows, potential_stored, lists_when_opened, queues, room_of};
 
 use crate::{kinds, names};
 use gier_symbol::{Symbol, Tag};
@@ -47,18 +47,18 @@ pub(crate) struct Lists {
 impl Lists {
     /// Opens the lists.
     pub(crate) fn open(tables: &mut Tables, bytes: u32) -> Lists
-        requires cleared { kept tables.old ≡ fresh (kept tables.old).limit }
-        requires limit { (kept tables.old).limit ≤ 2 ^ 19 }
-        requires bytes { bytes ≤ (kept tables.old).limit }
+        requires cleared { tables_model tables.old ≡ fresh (tables_model tables.old).limit }
+        requires limit { (tables_model tables.old).limit ≤ 2 ^ 19 }
+        requires bytes { bytes ≤ (tables_model tables.old).limit }
         ensures bytes { result.bytes ≡ bytes }
-        ensures lists { HasLists bytes (kept tables.new) }
-        ensures out { load (kept tables.new) 0 ≡ 0 }
-        ensures entries { load (kept tables.new) 1 ≡ 0 }
-        ensures own_entries { load (kept tables.new) 2 ≡ 0 }
-        ensures owns { load (kept tables.new) 3 ≡ 0 }
-        ensures formals { load (kept tables.new) 4 ≡ 0 }
-        ensures faults { (kept tables.new).faults ≡ (kept tables.old).faults }
-        ensures limit { (kept tables.new).limit ≡ (kept tables.old).limit }
+        ensures lists { HasLists bytes (tables_model tables.new) }
+        ensures out { potential_stored (tables_model tables.new) 0 ≡ 0 }
+        ensures entries { potential_stored (tables_model tables.new) 1 ≡ 0 }
+        ensures own_entries { potential_stored (tables_model tables.new) 2 ≡ 0 }
+        ensures owns { potential_stored (tables_model tables.new) 3 ≡ 0 }
+        ensures formals { potential_stored (tables_model tables.new) 4 ≡ 0 }
+        ensures faults { (tables_model tables.new).faults ≡ (tables_model tables.old).faults }
+        ensures limit { (tables_model tables.new).limit ≡ (tables_model tables.old).limit }
     {
         let lists = Lists { bytes };
         lists.open_queues(tables);
@@ -70,13 +70,13 @@ impl Lists {
 
     // Opens the lists in which symbols wait.
     fn open_queues(self, tables: &mut Tables)
-        requires cleared { kept tables.old ≡ fresh (kept tables.old).limit }
-        requires limit { (kept tables.old).limit ≤ 2 ^ 19 }
-        requires bytes { self.bytes ≤ (kept tables.old).limit }
-        ensures lists { (kept tables.new).lists ≡ queues self.bytes }
-        ensures used { (kept tables.new).used ≡ 56 * self.bytes + 448 }
-        ensures faults { (kept tables.new).faults ≡ (kept tables.old).faults }
-        ensures limit { (kept tables.new).limit ≡ (kept tables.old).limit }
+        requires cleared { tables_model tables.old ≡ fresh (tables_model tables.old).limit }
+        requires limit { (tables_model tables.old).limit ≤ 2 ^ 19 }
+        requires bytes { self.bytes ≤ (tables_model tables.old).limit }
+        ensures lists { (tables_model tables.new).lists ≡ queues self.bytes }
+        ensures used { (tables_model tables.new).used ≡ 56 * self.bytes + 448 }
+        ensures faults { (tables_model tables.new).faults ≡ (tables_model tables.old).faults }
+        ensures limit { (tables_model tables.new).limit ≡ (tables_model tables.old).limit }
     {
         tables.list(OUTBOX_WIDTH, 8 * self.bytes + 64);
         tables.list(OUTBOX_WIDTH, 6 * self.bytes + 48);
@@ -87,13 +87,13 @@ impl Lists {
 
     // Opens the lists of scopes, cells and rows.
     fn open_tables(self, tables: &mut Tables)
-        requires lists { (kept tables.old).lists ≡ queues self.bytes }
-        requires used { (kept tables.old).used ≡ 56 * self.bytes + 448 }
-        requires limit { (kept tables.old).limit ≤ 2 ^ 19 }
-        requires bytes { self.bytes ≤ (kept tables.old).limit }
-        ensures lists { (kept tables.new).lists ≡ opened self.bytes }
-        ensures faults { (kept tables.new).faults ≡ (kept tables.old).faults }
-        ensures limit { (kept tables.new).limit ≡ (kept tables.old).limit }
+        requires lists { (tables_model tables.old).lists ≡ queues self.bytes }
+        requires used { (tables_model tables.old).used ≡ 56 * self.bytes + 448 }
+        requires limit { (tables_model tables.old).limit ≤ 2 ^ 19 }
+        requires bytes { self.bytes ≤ (tables_model tables.old).limit }
+        ensures lists { (tables_model tables.new).lists ≡ lists_when_opened self.bytes }
+        ensures faults { (tables_model tables.new).faults ≡ (tables_model tables.old).faults }
+        ensures limit { (tables_model tables.new).limit ≡ (tables_model tables.old).limit }
     {
         tables.list(1, self.most_scopes());
         tables.list(1, self.most_cells());
@@ -139,7 +139,7 @@ impl Lists {
         requires value { value < 2 ^ 40 }
         requires line { line < 2 ^ 24 }
         ensures letter { IsLetter self.bytes result }
-        ensures weight { weight_of 4 result.tag ≡ weight_of 4 (number_of kind) }
+        ensures potential { potential_of 4 result.tag ≡ potential_of 4 (number_of kind) }
     {
         Symbol::new(kind, value, line)
     }
@@ -151,74 +151,74 @@ impl Lists {
         requires name { IsTrue (is_number_in 4 self.bytes name) }
         requires line { line < 2 ^ 24 }
         ensures letter { IsLetter self.bytes result }
-        ensures weight { weight_of 4 result.tag ≡ weight_of 4 (number_of kind) }
+        ensures potential { potential_of 4 result.tag ≡ potential_of 4 (number_of kind) }
     {
         Symbol::new(kind, name, line)
     }
 
     /// Puts a symbol behind those that wait in one of the first five lists.
     pub(crate) fn put(self, tables: &mut Tables, list: u8, s: Symbol)
-        requires lists { HasLists self.bytes (kept tables.old) }
+        requires lists { HasLists self.bytes (tables_model tables.old) }
         requires list { list < 5 }
-        requires room { load (kept tables.old) list < room_of self.bytes list }
+        requires room { potential_stored (tables_model tables.old) list < room_of self.bytes list }
         requires letter { IsLetter self.bytes s }
-        ensures lists { HasLists self.bytes (kept tables.new) }
-        ensures adds { Adds list (weight_of 4 s.tag) (kept tables.old) (kept tables.new) }
+        ensures lists { HasLists self.bytes (tables_model tables.new) }
+        ensures adds { Adds list (potential_of 4 s.tag) (tables_model tables.old) (tables_model tables.new) }
     {
         put(tables, list, s);
     }
 
     /// Puts a symbol behind those that are to be written.
     pub(crate) fn put_out(self, tables: &mut Tables, s: Symbol)
-        requires lists { HasLists self.bytes (kept tables.old) }
-        requires room { load (kept tables.old) 0 < 8 * self.bytes + 64 }
+        requires lists { HasLists self.bytes (tables_model tables.old) }
+        requires room { potential_stored (tables_model tables.old) 0 < 8 * self.bytes + 64 }
         requires letter { IsLetter self.bytes s }
-        ensures lists { HasLists self.bytes (kept tables.new) }
-        ensures grows { Grows (kept tables.old) (kept tables.new) (weight_of 4 s.tag) 0 0 0 0 }
+        ensures lists { HasLists self.bytes (tables_model tables.new) }
+        ensures grows { Grows (tables_model tables.old) (tables_model tables.new) (potential_of 4 s.tag) 0 0 0 0 }
     {
         self.put(tables, OUT, s);
     }
 
     /// Puts a symbol behind the entries of the open scopes.
     pub(crate) fn put_entry(self, tables: &mut Tables, s: Symbol)
-        requires lists { HasLists self.bytes (kept tables.old) }
-        requires room { load (kept tables.old) 1 < 6 * self.bytes + 48 }
+        requires lists { HasLists self.bytes (tables_model tables.old) }
+        requires room { potential_stored (tables_model tables.old) 1 < 6 * self.bytes + 48 }
         requires letter { IsLetter self.bytes s }
-        ensures lists { HasLists self.bytes (kept tables.new) }
-        ensures grows { Grows (kept tables.old) (kept tables.new) 0 (weight_of 4 s.tag) 0 0 0 }
+        ensures lists { HasLists self.bytes (tables_model tables.new) }
+        ensures grows { Grows (tables_model tables.old) (tables_model tables.new) 0 (potential_of 4 s.tag) 0 0 0 }
     {
         self.put(tables, ENTRIES, s);
     }
 
     /// Puts a symbol behind the entries of own quantities.
     pub(crate) fn put_own_entry(self, tables: &mut Tables, s: Symbol)
-        requires lists { HasLists self.bytes (kept tables.old) }
-        requires room { load (kept tables.old) 2 < 4 * self.bytes + 32 }
+        requires lists { HasLists self.bytes (tables_model tables.old) }
+        requires room { potential_stored (tables_model tables.old) 2 < 4 * self.bytes + 32 }
         requires letter { IsLetter self.bytes s }
-        ensures lists { HasLists self.bytes (kept tables.new) }
-        ensures grows { Grows (kept tables.old) (kept tables.new) 0 0 (weight_of 4 s.tag) 0 0 }
+        ensures lists { HasLists self.bytes (tables_model tables.new) }
+        ensures grows { Grows (tables_model tables.old) (tables_model tables.new) 0 0 (potential_of 4 s.tag) 0 0 }
     {
         self.put(tables, OWN_ENTRIES, s);
     }
 
     /// Puts a symbol behind the own declarations.
     pub(crate) fn put_own(self, tables: &mut Tables, s: Symbol)
-        requires lists { HasLists self.bytes (kept tables.old) }
-        requires room { load (kept tables.old) 3 < 8 * self.bytes + 64 }
+        requires lists { HasLists self.bytes (tables_model tables.old) }
+        requires room { potential_stored (tables_model tables.old) 3 < 8 * self.bytes + 64 }
         requires letter { IsLetter self.bytes s }
-        ensures lists { HasLists self.bytes (kept tables.new) }
-        ensures grows { Grows (kept tables.old) (kept tables.new) 0 0 0 (weight_of 4 s.tag) 0 }
+        ensures lists { HasLists self.bytes (tables_model tables.new) }
+        ensures grows { Grows (tables_model tables.old) (tables_model tables.new) 0 0 0 (potential_of 4 s.tag) 0 }
     {
         self.put(tables, OWNS, s);
     }
 
     /// Puts a symbol behind the descriptions of formals.
     pub(crate) fn put_formal(self, tables: &mut Tables, s: Symbol)
-        requires lists { HasLists self.bytes (kept tables.old) }
-        requires room { load (kept tables.old) 4 < 2 * self.bytes + 16 }
+        requires lists { HasLists self.bytes (tables_model tables.old) }
+        requires room { potential_stored (tables_model tables.old) 4 < 2 * self.bytes + 16 }
         requires letter { IsLetter self.bytes s }
-        ensures lists { HasLists self.bytes (kept tables.new) }
-        ensures grows { Grows (kept tables.old) (kept tables.new) 0 0 0 0 (weight_of 4 s.tag) }
+        ensures lists { HasLists self.bytes (tables_model tables.new) }
+        ensures grows { Grows (tables_model tables.old) (tables_model tables.new) 0 0 0 0 (potential_of 4 s.tag) }
     {
         self.put(tables, FORMALS, s);
     }

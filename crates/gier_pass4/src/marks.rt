@@ -2,7 +2,7 @@
 
 /// Where the next symbol stands, as far as it tells what an identifier in a declaring place is.
 #[derive(Debug, Clone, Copy, PartialEq, Eq)]
-pub(crate) enum Place {
+pub(crate) enum ParseState {
     /// Among statements, or between declarations: such an identifier is a label.
     Statements,
     TypeDeclaration,

@@ -5,13 +5,13 @@
 ghost use Rattle.std.specs.Prelude.{◌≡◌, ◌<◌, ◌^◌, ◌+◌};
 ghost use Rattle.gier_symbol.specs.Tags.{number_of};
 ghost use Rattle.gier_symbol.specs.declared.tag.Tag.TheVariants.{Declaring, OpenMark, ShutMark};
-ghost use Rattle.gier_text.specs.Growth.{weight_of};
-ghost use Rattle.gier_text.specs.Kept.{kept};
+ghost use Rattle.gier_text.specs.Potential.{potential_of};
+ghost use Rattle.gier_text.specs.TablesModel.{tables_model};
 ghost use Rattle.gier_pass4.specs.Kinds.{owned_at};
 ghost use Rattle.gier_pass4.specs.Lists.{IsLetter};
-ghost use Rattle.gier_pass4.specs.Standing.{IsReady, IsName, Works};
+ghost use Rattle.gier_pass4.specs.Invariant.{StateInvariant, IsName, PreservesState};
 
-use crate::marks::Place;
+use crate::marks::ParseState;
 use crate::pass::Pass4;
 use gier_symbol::{Symbol, Tag};
 use gier_text::Tables;
@@ -43,9 +43,9 @@ const FRESH: u64 = 1 << 32;
 impl Pass4 {
     /// Puts a symbol where those of the declaration, or of the text, go.
     pub(crate) fn hand_on(&mut self, s: Symbol, tables: &mut Tables)
-        requires ready { IsReady self.old (kept tables.old) (weight_of 4 s.tag) }
+        requires ready { StateInvariant self.old (tables_model tables.old) (potential_of 4 s.tag) }
         requires letter { IsLetter self.old.lists.bytes s }
-        ensures { Works (weight_of 4 s.tag) self.old (kept tables.old) self.new (kept tables.new) }
+        ensures { PreservesState (potential_of 4 s.tag) self.old (tables_model tables.old) self.new (tables_model tables.new) }
     {
         if self.owned == Owned::Yes {
             self.lists.put_own(tables, s);
@@ -66,9 +66,9 @@ impl Pass4 {
     /// The number of an own quantity, which stands behind its declaring place. With the first of a declaration it is known that the
     /// declaration is an own one: it goes to the block around the program, with a `;` behind it that has the line of this identifier.
     pub(crate) fn own_number(&mut self, s: Symbol, tables: &mut Tables)
-        requires ready { IsReady self.old (kept tables.old) 1 }
+        requires ready { StateInvariant self.old (tables_model tables.old) 1 }
         requires line { s.line < 2 ^ 24 }
-        ensures { Works 1 self.old (kept tables.old) self.new (kept tables.new) }
+        ensures { PreservesState 1 self.old (tables_model tables.old) self.new (tables_model tables.new) }
     {
         self.fresh = FRESH + cmp::min(s.value, u64::from(self.lists.bytes));
         if self.owned == Owned::Unknown {
@@ -81,16 +81,16 @@ impl Pass4 {
 
     /// An own quantity in its declaring place, whose kind the cell will have.
     pub(crate) fn declare_own(&mut self, s: Symbol, cell: u64, tables: &mut Tables)
-        requires ready { IsReady self.old (kept tables.old) 6 }
+        requires ready { StateInvariant self.old (tables_model tables.old) 6 }
         requires name { IsName self.old.lists.bytes s.value }
         requires line { s.line < 2 ^ 24 }
         requires cell { cell < 2 ^ 40 }
-        ensures { Works 6 self.old (kept tables.old) self.new (kept tables.new) }
+        ensures { PreservesState 6 self.old (tables_model tables.old) self.new (tables_model tables.new) }
     {
         let lists = self.lists;
         let fresh = self.fresh;
         lists.put_own(tables, lists.named(Tag::Declaring, fresh, s.line));
-        if self.place == Place::Segment {
+        if self.place == ParseState::Segment {
             lists.put_own_entry(tables, lists.plain(Tag::Count, self.dimensions(), 0));
         }
         lists.put_own_entry(tables, lists.plain(Tag::Description, cell, 0));
@@ -101,24 +101,24 @@ impl Pass4 {
 
     /// `_own`, which is left out; with it an own declaration of arrays ends.
     pub(crate) fn own_word(&mut self, s: Symbol, tables: &mut Tables)
-        requires ready { IsReady self.old (kept tables.old) 1 }
+        requires ready { StateInvariant self.old (tables_model tables.old) 1 }
         requires letter { IsLetter self.old.lists.bytes s }
-        requires weight { weight_of 4 s.tag ≡ 1 }
-        ensures { Works 1 self.old (kept tables.old) self.new (kept tables.new) }
+        requires potential { potential_of 4 s.tag ≡ 1 }
+        ensures { PreservesState 1 self.old (tables_model tables.old) self.new (tables_model tables.new) }
     {
         if self.owned != Owned::Yes {
             self.lists.put_out(tables, s);
-        } else if self.place != Place::TypeDeclaration {
+        } else if self.place != ParseState::TypeDeclaration {
             self.owned = Owned::No;
         }
     }
 
     /// The mark before a declaration of variables. Before an own one it has the line of the type.
     pub(crate) fn end_type(&mut self, s: Symbol, tables: &mut Tables)
-        requires ready { IsReady self.old (kept tables.old) 1 }
+        requires ready { StateInvariant self.old (tables_model tables.old) 1 }
         requires letter { IsLetter self.old.lists.bytes s }
-        requires weight { weight_of 4 s.tag ≡ 1 }
-        ensures { Works 1 self.old (kept tables.old) self.new (kept tables.new) }
+        requires potential { potential_of 4 s.tag ≡ 1 }
+        ensures { PreservesState 1 self.old (tables_model tables.old) self.new (tables_model tables.new) }
     {
         if self.owned == Owned::Yes {
             let mark = self.lists.plain(Tag::OpenMark, s.value, self.type_line);
@@ -131,10 +131,10 @@ impl Pass4 {
 
     /// Writes the end of the block around the program, where there is one, and the mark behind the program.
     pub(crate) fn end_program(&mut self, s: Symbol, tables: &mut Tables)
-        requires ready { IsReady self.old (kept tables.old) 1 }
+        requires ready { StateInvariant self.old (tables_model tables.old) 1 }
         requires letter { IsLetter self.old.lists.bytes s }
-        requires weight { weight_of 4 s.tag ≡ 1 }
-        ensures { Works 1 self.old (kept tables.old) self.new (kept tables.new) }
+        requires potential { potential_of 4 s.tag ≡ 1 }
+        ensures { PreservesState 1 self.old (tables_model tables.old) self.new (tables_model tables.new) }
     {
         let lists = self.lists;
         let line = self.end_line;
@@ -154,10 +154,10 @@ impl Pass4 {
     /// Writes the own declarations and the beginning of the block, where there is one, the program's entries from `base` on, and the
     /// mark before the program.
     pub(crate) fn begin_program(&mut self, s: Symbol, base: u32, tables: &mut Tables)
-        requires ready { IsReady self.old (kept tables.old) 1 }
+        requires ready { StateInvariant self.old (tables_model tables.old) 1 }
         requires letter { IsLetter self.old.lists.bytes s }
-        requires weight { weight_of 4 s.tag ≡ 1 }
-        ensures { Works 1 self.old (kept tables.old) self.new (kept tables.new) }
+        requires potential { potential_of 4 s.tag ≡ 1 }
+        ensures { PreservesState 1 self.old (tables_model tables.old) self.new (tables_model tables.new) }
     {
         let lists = self.lists;
         self.owned = Owned::No;

@@ -1,11 +1,11 @@
 // The pass: what it knows of the place in which it stands, and how much it has taken.
 ghost use Rattle.std.specs.Prelude.{◌≡◌, ◌≤◌, ◌+◌, ◌*◌, ◌&&◌, [], nat_le};
-ghost use Rattle.gier_text.specs.Growth.{IsLight, is_name, is_numbered, weight_of};
-ghost use Rattle.gier_text.specs.Kept.{kept, fresh as fresh_tables};
-ghost use Rattle.gier_pass4.specs.Standing.{Stands};
+ghost use Rattle.gier_text.specs.Potential.{IsWithinPotential, is_name, is_numbered, potential_of};
+ghost use Rattle.gier_text.specs.TablesModel.{tables_model, fresh as fresh_tables};
+ghost use Rattle.gier_pass4.specs.Invariant.{PassInvariant};
 
 use crate::lists::{Lists, OUT};
-use crate::marks::Place;
+use crate::marks::ParseState;
 use crate::owns::{Frame, Owned};
 use gier_symbol::{Alphabet, Coded, Symbol, Tag};
 use gier_text::{Pass, PassStop, Tables, Text, flush};
@@ -19,7 +19,7 @@ pub struct Pass4 {
     pub(crate) lists: Lists,
     // What the symbols that were taken weigh.
     pub(crate) taken: u32,
-    pub(crate) place: Place,
+    pub(crate) place: ParseState,
     pub(crate) frame: Frame,
     pub(crate) owned: Owned,
     // The fresh identifier of the own quantity whose declaring place comes next.
@@ -35,8 +35,8 @@ pub struct Pass4 {
 }
 
 // What a symbol of text 3 weighs.
-fn weight_of(tag: u16) -> u32
-    ensures value { result ≡ weight_of 3 tag }
+fn potential_of(tag: u16) -> u32
+    ensures value { result ≡ potential_of 3 tag }
     ensures few { result ≤ 6 }
 {
     if tag == Tag::Declaring.number() {
@@ -62,17 +62,17 @@ fn is_name(tag: u16) -> bool
 impl Pass4 {
     /// The pass over text 3 of a program of so many bytes. The tables must be cleared and hold no fault.
     pub fn open(tables: &mut Tables, bytes: u32) -> Pass4
-        requires cleared { kept tables.old ≡ fresh_tables (kept tables.old).limit }
-        requires bytes { bytes ≤ (kept tables.old).limit }
-        ensures stands { Stands result (kept tables.new) [] [] }
+        requires cleared { tables_model tables.old ≡ fresh_tables (tables_model tables.old).limit }
+        requires bytes { bytes ≤ (tables_model tables.old).limit }
+        ensures stands { PassInvariant result (tables_model tables.new) [] [] }
         ensures bytes { result.lists.bytes ≡ bytes }
-        ensures faults { (kept tables.new).faults ≡ [] }
-        ensures limit { (kept tables.new).limit ≡ (kept tables.old).limit }
+        ensures faults { (tables_model tables.new).faults ≡ [] }
+        ensures limit { (tables_model tables.new).limit ≡ (tables_model tables.old).limit }
     {
         Pass4 {
             lists: Lists::open(tables, bytes),
             taken: 0,
-            place: Place::Statements,
+            place: ParseState::Statements,
             frame: Frame::Nothing,
             owned: Owned::No,
             fresh: 0,
@@ -88,9 +88,9 @@ impl Pass4 {
     fn may_take(&self, s: Symbol) -> bool
         requires few { self.now.taken ≤ 8 * self.now.lists.bytes + 64 }
         requires bytes { self.now.lists.bytes ≤ 524288 }
-        ensures { result ≡ (nat_le (self.now.taken + weight_of 3 s.tag) (8 * self.now.lists.bytes + 64) && is_numbered 3 self.now.lists.bytes s) }
+        ensures { result ≡ (nat_le (self.now.taken + potential_of 3 s.tag) (8 * self.now.lists.bytes + 64) && is_numbered 3 self.now.lists.bytes s) }
     {
-        let light = self.taken + weight_of(s.tag) <= self.lists.most_weight();
+        let light = self.taken + potential_of(s.tag) <= self.lists.most_weight();
         light && (!is_name(s.tag) || s.value < u64::from(self.lists.most_names()))
     }
 }
@@ -106,11 +106,11 @@ impl Pass for Pass4 {
 
     ghost GROWTH = { 8 };
 
-    ghost stands = { λ pass tables read written. Stands pass (kept tables) read written };
+    ghost stands = { λ pass tables read written. PassInvariant pass (tables_model tables) read written };
 
-    ghost relates = { λ pass tables read written. IsLight 4 pass.lists.bytes written };
+    ghost relates = { λ pass tables read written. IsWithinPotential 4 pass.lists.bytes written };
 
-    ghost expects = { λ pass list. IsLight 3 pass.lists.bytes list };
+    ghost expects = { λ pass list. IsWithinPotential 3 pass.lists.bytes list };
 
     ghost most = { λ pass. 8 * pass.lists.bytes + 64 };
 
@@ -129,7 +129,7 @@ impl Pass for Pass4 {
                 word,
             }));
         }
-        self.taken += weight_of(symbol.tag);
+        self.taken += potential_of(symbol.tag);
         self.step(symbol, tables);
         if self.owned == Owned::Unknown {
             return Ok(());

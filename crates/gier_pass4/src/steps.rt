@@ -3,12 +3,12 @@ ghost use Rattle.std.specs.Prelude.{◌≡◌, ◌≢◌, ◌<◌, ◌≤◌, �
 ghost use Rattle.gier_symbol.specs.Symbols.{IsSymbol};
 ghost use Rattle.gier_symbol.specs.Tags.{number_of};
 ghost use Rattle.gier_symbol.specs.Texts.{stands_in};
-ghost use Rattle.gier_text.specs.Growth.{is_numbered, weight_of};
-ghost use Rattle.gier_text.specs.Kept.{kept};
+ghost use Rattle.gier_text.specs.Potential.{is_numbered, potential_of};
+ghost use Rattle.gier_text.specs.TablesModel.{tables_model};
 ghost use Rattle.gier_pass4.specs.Lists.{IsLetter};
-ghost use Rattle.gier_pass4.specs.Standing.{IsReady, IsName, Works};
+ghost use Rattle.gier_pass4.specs.Invariant.{StateInvariant, IsName, PreservesState};
 
-use crate::marks::Place;
+use crate::marks::ParseState;
 use crate::owns::Frame;
 use crate::pass::Pass4;
 use gier_symbol::{Symbol, Tag};
@@ -18,11 +18,11 @@ use gier_tree::Construct;
 impl Pass4 {
     /// Takes a symbol, and puts what is to be written then into the list of that.
     pub(crate) fn step(&mut self, s: Symbol, tables: &mut Tables)
-        requires ready { IsReady self.old (kept tables.old) (weight_of 3 s.tag) }
+        requires ready { StateInvariant self.old (tables_model tables.old) (potential_of 3 s.tag) }
         requires symbol { IsSymbol s }
         requires letter { IsTrue (stands_in 3 s.tag) }
         requires numbered { IsTrue (is_numbered 3 self.old.lists.bytes s) }
-        ensures { Works (weight_of 3 s.tag) self.old (kept tables.old) self.new (kept tables.new) }
+        ensures { PreservesState (potential_of 3 s.tag) self.old (tables_model tables.old) self.new (tables_model tables.new) }
     {
         match Tag::of(s.tag) {
             Some(Tag::OwnNumber) => self.own_number(s, tables),
@@ -36,10 +36,10 @@ impl Pass4 {
 
     // Any symbol that is handed on, though it may change what the pass knows.
     fn other(&mut self, s: Symbol, kind: Tag, tables: &mut Tables)
-        requires ready { IsReady self.old (kept tables.old) (weight_of 4 s.tag) }
+        requires ready { StateInvariant self.old (tables_model tables.old) (potential_of 4 s.tag) }
         requires letter { IsLetter self.old.lists.bytes s }
         requires kind { number_of kind ≡ s.tag }
-        ensures { Works (weight_of 4 s.tag) self.old (kept tables.old) self.new (kept tables.new) }
+        ensures { PreservesState (potential_of 4 s.tag) self.old (tables_model tables.old) self.new (tables_model tables.new) }
     {
         match kind {
             Tag::ShutMark => self.shut(s, tables),
@@ -54,9 +54,9 @@ impl Pass4 {
 
     // The end of the text, which is read first; its value tells whether there are own quantities.
     fn text_end(&mut self, s: Symbol, tables: &mut Tables)
-        requires ready { IsReady self.old (kept tables.old) 5 }
+        requires ready { StateInvariant self.old (tables_model tables.old) 5 }
         requires line { s.line < 2 ^ 24 }
-        ensures { Works 5 self.old (kept tables.old) self.new (kept tables.new) }
+        ensures { PreservesState 5 self.old (tables_model tables.old) self.new (tables_model tables.new) }
     {
         self.frame = if s.value == 0 {
             Frame::Nothing
@@ -70,10 +70,10 @@ impl Pass4 {
 
     // What the symbol tells of kinds.
     fn note(&mut self, s: Symbol, kind: Tag, tables: &mut Tables)
-        requires ready { IsReady self.old (kept tables.old) (weight_of 4 s.tag) }
+        requires ready { StateInvariant self.old (tables_model tables.old) (potential_of 4 s.tag) }
         requires line { s.line < 2 ^ 24 }
-        ensures ready { IsReady self.new (kept tables.new) (weight_of 4 s.tag) }
-        ensures works { Works 0 self.old (kept tables.old) self.new (kept tables.new) }
+        ensures ready { StateInvariant self.new (tables_model tables.new) (potential_of 4 s.tag) }
+        ensures works { PreservesState 0 self.old (tables_model tables.old) self.new (tables_model tables.new) }
     {
         let lists = self.lists;
         match kind {
@@ -93,10 +93,10 @@ impl Pass4 {
 
     // The mark behind a construct.
     fn shut(&mut self, s: Symbol, tables: &mut Tables)
-        requires ready { IsReady self.old (kept tables.old) 1 }
+        requires ready { StateInvariant self.old (tables_model tables.old) 1 }
         requires letter { IsLetter self.old.lists.bytes s }
-        requires weight { weight_of 4 s.tag ≡ 1 }
-        ensures { Works 1 self.old (kept tables.old) self.new (kept tables.new) }
+        requires potential { potential_of 4 s.tag ≡ 1 }
+        ensures { PreservesState 1 self.old (tables_model tables.old) self.new (tables_model tables.new) }
     {
         match Construct::of(s.value) {
             Some(Construct::Program) => {
@@ -123,15 +123,15 @@ impl Pass4 {
     {
         match construct {
             Construct::TypeDeclaration => {
-                self.place = Place::TypeDeclaration;
+                self.place = ParseState::TypeDeclaration;
                 self.begin_owned();
             }
             Construct::ArraySegment => {
-                self.place = Place::Segment;
+                self.place = ParseState::Segment;
                 self.bounds = 0;
                 self.begin_owned();
             }
-            Construct::SwitchDeclaration => self.place = Place::SwitchDeclaration,
+            Construct::SwitchDeclaration => self.place = ParseState::SwitchDeclaration,
             Construct::Bound => self.bounds = self.bounds.saturating_add(1),
             _ => {}
         }
@@ -139,10 +139,10 @@ impl Pass4 {
 
     // The mark before a construct.
     fn opened(&mut self, s: Symbol, tables: &mut Tables)
-        requires ready { IsReady self.old (kept tables.old) 1 }
+        requires ready { StateInvariant self.old (tables_model tables.old) 1 }
         requires letter { IsLetter self.old.lists.bytes s }
-        requires weight { weight_of 4 s.tag ≡ 1 }
-        ensures { Works 1 self.old (kept tables.old) self.new (kept tables.new) }
+        requires potential { potential_of 4 s.tag ≡ 1 }
+        ensures { PreservesState 1 self.old (tables_model tables.old) self.new (tables_model tables.new) }
     {
         match Construct::of(s.value) {
             Some(Construct::Program) => {
@@ -159,11 +159,11 @@ impl Pass4 {
                 self.hand_on(s, tables);
             }
             Some(Construct::TypeDeclaration) => {
-                self.place = Place::Statements;
+                self.place = ParseState::Statements;
                 self.end_type(s, tables);
             }
             Some(Construct::ArraySegment | Construct::SwitchDeclaration) => {
-                self.place = Place::Statements;
+                self.place = ParseState::Statements;
                 self.hand_on(s, tables);
             }
             _ => self.hand_on(s, tables),
@@ -172,10 +172,10 @@ impl Pass4 {
 
     // Writes the entries of the innermost scope, and the mark before it.
     fn end_of_scope(&mut self, s: Symbol, tables: &mut Tables)
-        requires ready { IsReady self.old (kept tables.old) 1 }
+        requires ready { StateInvariant self.old (tables_model tables.old) 1 }
         requires letter { IsLetter self.old.lists.bytes s }
-        requires weight { weight_of 4 s.tag ≡ 1 }
-        ensures { Works 1 self.old (kept tables.old) self.new (kept tables.new) }
+        requires potential { potential_of 4 s.tag ≡ 1 }
+        ensures { PreservesState 1 self.old (tables_model tables.old) self.new (tables_model tables.new) }
     {
         let base = self.lists.end_scope(tables);
         self.lists.give_entries(tables, base, s.line);

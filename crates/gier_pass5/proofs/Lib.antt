@@ -1,3 +1,3 @@
-pub mod Going
+pub mod InvariantSteps
 pub mod Weights
 pub mod Unnumbered

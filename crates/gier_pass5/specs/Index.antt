@@ -1,6 +1,6 @@
 -- The rows of the index.
 use Rattle.std.specs.Prelude.{◌≡◌, ◌+◌, ◌-◌, ◌&&◌, ◌^◌, ℕ, nat_lt, nat_le, if◌then◌else◌, Option, None, Some, length}
-use Rattle.gier_text.specs.Kept.{Kept}
+use Rattle.gier_text.specs.TablesModel.{TablesModel}
 use Rattle.gier_text.specs.Lists.{list_at}
 
 -- the identifiers of the program and the standard ones first, then the fresh identifiers of own quantities
@@ -11,7 +11,7 @@ row_at number bytes =
     else None)
 
 -- a fourth list, with so many rows and room for so many
-pub record OpensIndex (room filled : ℕ) (old new : Kept) : Type 0 where
+pub record OpensIndex (room filled : ℕ) (old new : TablesModel) : Type 0 where
   pub lists : length new.lists ≡ 4
   pub first : list_at new.lists 0 ≡ list_at old.lists 0
   pub second : list_at new.lists 1 ≡ list_at old.lists 1

@@ -1,5 +1,5 @@
 pub mod Lists
-pub mod Links
+pub mod OptionalIndices
 pub mod Index
 pub mod Entries
 pub mod Scopes
@@ -8,6 +8,6 @@ pub mod Marks
 pub mod Kinds
 pub mod Places
 pub mod Letters
-pub mod Standing
+pub mod Invariant
 pub mod Uses
 pub mod Steps

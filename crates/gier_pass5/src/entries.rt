@@ -2,7 +2,7 @@
 //
 // An entry that is the first of its identifier in its scope stands in the index, and hides the entry that stood there before.
 ghost use Rattle.std.specs.Prelude.{◌≡◌, ◌≤◌, ◌<◌, ◌+◌, ◌*◌, ◌^◌, length, IfSome};
-ghost use Rattle.gier_text.specs.Kept.{kept, with_list};
+ghost use Rattle.gier_text.specs.TablesModel.{tables_model, with_list};
 ghost use Rattle.gier_text.specs.Lists.{list_at, word_at};
 ghost use Rattle.gier_pass5.specs.Entries.{part_at, Adds, Cuts};
 ghost use Rattle.gier_pass5.specs.Lists.{HasLists, Keeps, entry_count, entry_room, row_count};
@@ -24,7 +24,7 @@ const HIDES: u8 = 1;
 
 /// A part of an entry.
 #[derive(Debug, Clone, Copy, PartialEq, Eq)]
-pub(crate) enum Part {
+pub(crate) enum Field {
     Kind,
     /// Level times 2^24 plus address, or plus number of a label, switch or procedure.
     Place,
@@ -42,7 +42,7 @@ pub(crate) enum Part {
 
 /// What an entry tells of its identifier.
 #[derive(Debug, Clone, Copy)]
-pub(crate) struct Told {
+pub(crate) struct SymbolEntry {
     pub(crate) kind: u64,
     pub(crate) place: u64,
     pub(crate) count: u64,
@@ -55,89 +55,89 @@ pub(crate) struct Told {
 
 /// Opens the list for a program of so many bytes.
 pub(crate) fn open(tables: &mut Tables, bytes: u32)
-    requires lists { length (kept tables.old).lists ≡ 1 }
+    requires lists { length (tables_model tables.old).lists ≡ 1 }
     requires bytes { bytes ≤ 2 ^ 19 }
-    requires fits { (kept tables.old).used + 9 * (4 * bytes + 40) ≤ 62 * (kept tables.old).limit + 4092 }
-    ensures { kept tables.new ≡ with_list (kept tables.old) 9 (4 * bytes + 40) }
+    requires fits { (tables_model tables.old).used + 9 * (4 * bytes + 40) ≤ 62 * (tables_model tables.old).limit + 4092 }
+    ensures { tables_model tables.new ≡ with_list (tables_model tables.old) 9 (4 * bytes + 40) }
 {
     tables.list(WIDTH, 4 * bytes + 40);
 }
 
 /// How many entries there are.
 pub(crate) fn count(tables: &Tables) -> u32
-    requires { HasLists (kept tables.now) }
-    ensures { result ≡ entry_count (kept tables.now) }
+    requires { HasLists (tables_model tables.now) }
+    ensures { result ≡ entry_count (tables_model tables.now) }
 {
     tables.len(LIVE)
 }
 
-fn part_number(part: Part) -> u8
+fn part_number(part: Field) -> u8
     ensures value { result ≡ part_at part }
     ensures within { result < 9 }
 {
     match part {
-        Part::Kind => 2,
-        Part::Place => 3,
-        Part::Count => 4,
-        Part::Own => 5,
-        Part::Valued => 6,
-        Part::Specified => 7,
-        Part::Line => 8,
+        Field::Kind => 2,
+        Field::Place => 3,
+        Field::Count => 4,
+        Field::Own => 5,
+        Field::Valued => 6,
+        Field::Specified => 7,
+        Field::Line => 8,
     }
 }
 
 /// A part of an entry.
-pub(crate) fn get(tables: &Tables, entry: u32, part: Part) -> u64
-    requires lists { HasLists (kept tables.now) }
-    requires entry { entry < entry_count (kept tables.now) }
-    ensures value { result ≡ word_at (list_at (kept tables.now).lists 1) entry (part_at part) }
+pub(crate) fn get(tables: &Tables, entry: u32, part: Field) -> u64
+    requires lists { HasLists (tables_model tables.now) }
+    requires entry { entry < entry_count (tables_model tables.now) }
+    ensures value { result ≡ word_at (list_at (tables_model tables.now).lists 1) entry (part_at part) }
     ensures small { result < 2 ^ 40 }
 {
     tables.word(LIVE, entry, part_number(part))
 }
 
 /// Sets a part of an entry.
-pub(crate) fn set(tables: &mut Tables, entry: u32, part: Part, word: u64)
-    requires lists { HasLists (kept tables.old) }
-    requires entry { entry < entry_count (kept tables.old) }
+pub(crate) fn set(tables: &mut Tables, entry: u32, part: Field, word: u64)
+    requires lists { HasLists (tables_model tables.old) }
+    requires entry { entry < entry_count (tables_model tables.old) }
     requires small { word < 2 ^ 40 }
-    ensures { Keeps (kept tables.old) (kept tables.new) }
+    ensures { Keeps (tables_model tables.old) (tables_model tables.new) }
 {
     tables.set_word(LIVE, entry, part_number(part), word);
 }
 
 /// Whether the identifier has an entry before this one in its scope.
 pub(crate) fn is_second(tables: &Tables, entry: u32) -> bool
-    requires lists { HasLists (kept tables.now) }
-    requires entry { entry < entry_count (kept tables.now) }
+    requires lists { HasLists (tables_model tables.now) }
+    requires entry { entry < entry_count (tables_model tables.now) }
 {
     tables.word(LIVE, entry, ROW) == 0
 }
 
 /// The entry that an own quantity, whose entry in its old place this is, has in the block around the program.
 pub(crate) fn own_entry(tables: &Tables, entry: u32) -> Option<u32>
-    requires lists { HasLists (kept tables.now) }
-    requires entry { entry < entry_count (kept tables.now) }
-    ensures { IfSome result (λ own. own < entry_count (kept tables.now)) }
+    requires lists { HasLists (tables_model tables.now) }
+    requires entry { entry < entry_count (tables_model tables.now) }
+    ensures { IfSome result (λ own. own < entry_count (tables_model tables.now)) }
 {
-    linked(get(tables, entry, Part::Own), count(tables))
+    linked(get(tables, entry, Field::Own), count(tables))
 }
 
 /// The innermost entry of an identifier, which has this row of the index.
 pub(crate) fn innermost(tables: &Tables, row: u32) -> Option<u32>
-    requires lists { HasLists (kept tables.now) }
-    requires row { row < row_count (kept tables.now) }
-    ensures { IfSome result (λ entry. entry < entry_count (kept tables.now)) }
+    requires lists { HasLists (tables_model tables.now) }
+    requires row { row < row_count (tables_model tables.now) }
+    ensures { IfSome result (λ entry. entry < entry_count (tables_model tables.now)) }
 {
     linked(index::get(tables, row), count(tables))
 }
 
 /// Adds an entry to the innermost scope, whose first entry is told.
-pub(crate) fn add(tables: &mut Tables, row: Option<u32>, first: u32, told: Told)
-    requires lists { HasLists (kept tables.old) }
-    requires row { IfSome row (λ at. at < row_count (kept tables.old)) }
-    requires room { entry_count (kept tables.old) < entry_room (kept tables.old) }
-    ensures { Adds (kept tables.old) (kept tables.new) }
+pub(crate) fn add(tables: &mut Tables, row: Option<u32>, first: u32, told: SymbolEntry)
+    requires lists { HasLists (tables_model tables.old) }
+    requires row { IfSome row (λ at. at < row_count (tables_model tables.old)) }
+    requires room { entry_count (tables_model tables.old) < entry_room (tables_model tables.old) }
+    ensures { Adds (tables_model tables.old) (tables_model tables.new) }
 {
     let at = count(tables);
     let Some(row) = row else {
@@ -161,11 +161,11 @@ fn is_within(entry: Option<u32>, first: u32) -> bool {
     }
 }
 
-fn push(tables: &mut Tables, row: u64, hidden: Option<u32>, told: Told)
-    requires lists { HasLists (kept tables.old) }
+fn push(tables: &mut Tables, row: u64, hidden: Option<u32>, told: SymbolEntry)
+    requires lists { HasLists (tables_model tables.old) }
     requires row { row < 2 ^ 40 }
-    requires room { entry_count (kept tables.old) < entry_room (kept tables.old) }
-    ensures { Adds (kept tables.old) (kept tables.new) }
+    requires room { entry_count (tables_model tables.old) < entry_room (tables_model tables.old) }
+    ensures { Adds (tables_model tables.old) (tables_model tables.new) }
 {
     tables.push(
         LIVE,
@@ -185,9 +185,9 @@ fn push(tables: &mut Tables, row: u64, hidden: Option<u32>, told: Told)
 
 /// Takes away the entries from this one on, the last one first; those that they hid stand in the index again.
 pub(crate) fn cut(tables: &mut Tables, first: u32)
-    requires lists { HasLists (kept tables.old) }
-    requires within { first ≤ entry_count (kept tables.old) }
-    ensures { Cuts (kept tables.old) first (kept tables.new) }
+    requires lists { HasLists (tables_model tables.old) }
+    requires within { first ≤ entry_count (tables_model tables.old) }
+    ensures { Cuts (tables_model tables.old) first (tables_model tables.new) }
 {
     let mut at = count(tables);
     while at > first {
@@ -199,9 +199,9 @@ pub(crate) fn cut(tables: &mut Tables, first: u32)
 
 // Puts what the entry hides in its place in the index.
 fn uncover(tables: &mut Tables, entry: u32)
-    requires lists { HasLists (kept tables.old) }
-    requires entry { entry < entry_count (kept tables.old) }
-    ensures { Keeps (kept tables.old) (kept tables.new) }
+    requires lists { HasLists (tables_model tables.old) }
+    requires entry { entry < entry_count (tables_model tables.old) }
+    ensures { Keeps (tables_model tables.old) (tables_model tables.new) }
 {
     let row = tables.word(LIVE, entry, ROW);
     if row == 0 || row > u64::from(index::rows(tables)) {

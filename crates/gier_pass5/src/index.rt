@@ -3,7 +3,7 @@
 // Identifiers of the program and the standard ones have the first rows, the fresh identifiers of own quantities those behind them.
 // A row is a word that tells of an entry or of none.
 ghost use Rattle.std.specs.Prelude.{◌≡◌, ◌≤◌, ◌<◌, ◌+◌, ◌*◌, ◌^◌, length, IfSome};
-ghost use Rattle.gier_text.specs.Kept.{kept, with_at};
+ghost use Rattle.gier_text.specs.TablesModel.{tables_model, with_at};
 ghost use Rattle.gier_text.specs.Lists.{list_at, word_at, with_word};
 ghost use Rattle.gier_pass5.specs.Index.{row_at, OpensIndex};
 ghost use Rattle.gier_pass5.specs.Lists.{HasLists, Keeps, row_count};
@@ -25,10 +25,10 @@ const FIRST_FRESH: u64 = 1 << 32;
 
 /// Opens the index of a program of so many bytes, without any entry.
 pub(crate) fn open(tables: &mut Tables, bytes: u32)
-    requires lists { length (kept tables.old).lists ≡ 3 }
+    requires lists { length (tables_model tables.old).lists ≡ 3 }
     requires bytes { bytes ≤ 2 ^ 19 }
-    requires fits { (kept tables.old).used + (2 * bytes + 65) ≤ 62 * (kept tables.old).limit + 4092 }
-    ensures { OpensIndex (2 * bytes + 65) (2 * bytes + 65) (kept tables.old) (kept tables.new) }
+    requires fits { (tables_model tables.old).used + (2 * bytes + 65) ≤ 62 * (tables_model tables.old).limit + 4092 }
+    ensures { OpensIndex (2 * bytes + 65) (2 * bytes + 65) (tables_model tables.old) (tables_model tables.new) }
 {
     let rows = 2 * bytes + STANDARD_ROOM + 1;
     tables.list(WIDTH, rows);
@@ -55,9 +55,9 @@ pub(crate) fn row_of(number: u64, bytes: u32) -> Option<u32>
 
 /// The word of a row.
 pub(crate) fn get(tables: &Tables, row: u32) -> u64
-    requires lists { HasLists (kept tables.now) }
-    requires row { row < row_count (kept tables.now) }
-    ensures value { result ≡ word_at (list_at (kept tables.now).lists 3) row 0 }
+    requires lists { HasLists (tables_model tables.now) }
+    requires row { row < row_count (tables_model tables.now) }
+    ensures value { result ≡ word_at (list_at (tables_model tables.now).lists 3) row 0 }
     ensures small { result < 2 ^ 40 }
 {
     tables.word(INDEX, row, ENTRY)
@@ -65,19 +65,19 @@ pub(crate) fn get(tables: &Tables, row: u32) -> u64
 
 /// Sets the word of a row.
 pub(crate) fn set(tables: &mut Tables, row: u32, word: u64)
-    requires lists { HasLists (kept tables.old) }
-    requires row { row < row_count (kept tables.old) }
+    requires lists { HasLists (tables_model tables.old) }
+    requires row { row < row_count (tables_model tables.old) }
     requires small { word < 2 ^ 40 }
-    ensures value { kept tables.new ≡ with_at (kept tables.old) 3 (with_word (list_at (kept tables.old).lists 3) row 0 word) }
-    ensures keeps { Keeps (kept tables.old) (kept tables.new) }
+    ensures value { tables_model tables.new ≡ with_at (tables_model tables.old) 3 (with_word (list_at (tables_model tables.old).lists 3) row 0 word) }
+    ensures keeps { Keeps (tables_model tables.old) (tables_model tables.new) }
 {
     tables.set_word(INDEX, row, ENTRY, word);
 }
 
 /// How many rows there are.
 pub(crate) fn rows(tables: &Tables) -> u32
-    requires { HasLists (kept tables.now) }
-    ensures { result ≡ row_count (kept tables.now) }
+    requires { HasLists (tables_model tables.now) }
+    ensures { result ≡ row_count (tables_model tables.now) }
 {
     tables.len(INDEX)
 }

@@ -8,7 +8,7 @@ mod index;
 mod kinds;
 mod links;
 mod marks;
-mod meant;
+mod binding;
 mod outbox;
 mod pass;
 mod places;

@@ -1,6 +1,6 @@
 // How a word tells of an entry: it is the entry's number increased by 1, or 0 where there is none.
 ghost use Rattle.std.specs.Prelude.{◌≡◌, ◌<◌, ◌^◌, IfSome};
-ghost use Rattle.gier_pass5.specs.Links.{link_at, linked_at};
+ghost use Rattle.gier_pass5.specs.OptionalIndices.{link_at, linked_at};
 
 /// The word that tells of an entry or of none.
 pub(crate) fn link_to(entry: Option<u32>) -> u64

@@ -1,13 +1,13 @@
 // The pass: its fields, and how much was taken.
 ghost use Rattle.std.specs.Prelude.{◌≡◌, ◌≤◌, ◌+◌, ◌*◌, ◌^◌, []};
 ghost use Rattle.gier_symbol.specs.Texts.{is_tag_of};
-ghost use Rattle.gier_text.specs.Growth.{IsLight, weight_of};
-ghost use Rattle.gier_text.specs.Kept.{kept, fresh};
+ghost use Rattle.gier_text.specs.Potential.{IsWithinPotential, potential_of};
+ghost use Rattle.gier_text.specs.TablesModel.{tables_model, fresh};
 ghost use Rattle.gier_pass5.specs.Entries.{AddsMore};
 ghost use Rattle.gier_pass5.specs.Lists.{HasLists, entry_count, entry_room, row_count};
-ghost use Rattle.gier_pass5.specs.Standing.{Stands, Relates};
+ghost use Rattle.gier_pass5.specs.Invariant.{PassInvariant, Relates};
 
-use crate::entries::{self, Told};
+use crate::entries::{self, SymbolEntry};
 use crate::kinds::{FIRST_STANDARD, STANDARDS};
 use crate::outbox::{OUTBOX, OUTBOX_ROOM};
 use crate::places::Counters;
@@ -47,8 +47,8 @@ pub(crate) fn is(kind: Tag, s: Symbol) -> bool
 }
 
 /// What a symbol of the text weighs.
-pub(crate) fn weight_of(s: Symbol) -> u32
-    ensures { result ≡ weight_of 4 s.tag }
+pub(crate) fn potential_of(s: Symbol) -> u32
+    ensures { result ≡ potential_of 4 s.tag }
 {
     if is(Tag::Identifier, s) {
         USE_WEIGHT
@@ -60,12 +60,12 @@ pub(crate) fn weight_of(s: Symbol) -> u32
 impl Pass5 {
     /// The pass over text 4 of a program of so many bytes. The tables must be cleared and hold no fault.
     pub fn open(tables: &mut Tables, bytes: u32) -> Pass5
-        requires cleared { kept tables.old ≡ fresh (kept tables.old).limit }
-        requires bytes { bytes ≤ (kept tables.old).limit }
-        ensures stands { Stands result (kept tables.new) [] [] }
+        requires cleared { tables_model tables.old ≡ fresh (tables_model tables.old).limit }
+        requires bytes { bytes ≤ (tables_model tables.old).limit }
+        ensures stands { PassInvariant result (tables_model tables.new) [] [] }
         ensures bytes { result.bytes ≡ bytes }
-        ensures faults { (kept tables.new).faults ≡ [] }
-        ensures limit { (kept tables.new).limit ≡ (kept tables.old).limit }
+        ensures faults { (tables_model tables.new).faults ≡ [] }
+        ensures limit { (tables_model tables.new).limit ≡ (tables_model tables.old).limit }
     {
         tables.list(OUTBOX_WIDTH, OUTBOX_ROOM);
         entries::open(tables, bytes);
@@ -98,14 +98,14 @@ impl Pass5 {
 
 // Adds the standard identifiers to the outermost scope.
 fn add_standard(tables: &mut Tables, bytes: u32)
-    requires lists { HasLists (kept tables.old) }
+    requires lists { HasLists (tables_model tables.old) }
     requires bytes { bytes ≤ 2 ^ 19 }
-    requires rows { row_count (kept tables.old) ≡ 2 * bytes + 65 }
-    requires room { entry_count (kept tables.old) + 8 ≤ entry_room (kept tables.old) }
-    ensures { AddsMore 8 (kept tables.old) (kept tables.new) }
+    requires rows { row_count (tables_model tables.old) ≡ 2 * bytes + 65 }
+    requires room { entry_count (tables_model tables.old) + 8 ≤ entry_room (tables_model tables.old) }
+    ensures { AddsMore 8 (tables_model tables.old) (tables_model tables.new) }
 {
     for number in 0..STANDARDS {
-        let told = Told {
+        let told = SymbolEntry {
             kind: FIRST_STANDARD.number() + u64::from(number),
             place: 0,
             count: 0,
@@ -126,11 +126,11 @@ impl Pass for Pass5 {
 
     ghost GROWTH = { 8 };
 
-    ghost stands = { λ pass tables read written. Stands pass (kept tables) read written };
+    ghost stands = { λ pass tables read written. PassInvariant pass (tables_model tables) read written };
 
     ghost relates = { λ pass tables read written. Relates pass read written };
 
-    ghost expects = { λ pass list. IsLight 4 pass.bytes list };
+    ghost expects = { λ pass list. IsWithinPotential 4 pass.bytes list };
 
     ghost most = { λ pass. 8 * pass.bytes + 64 };
 
@@ -142,7 +142,7 @@ impl Pass for Pass5 {
         tables: &mut Tables,
     ) -> Result<(), PassStop> {
         let symbol = s.symbol();
-        if self.taken + weight_of(symbol) > self.greatest() {
+        if self.taken + potential_of(symbol) > self.greatest() {
             let [word, _] = symbol.code();
             return Err(PassStop::Spoilt(Odd {
                 place: u64::from(self.taken),

@@ -1,6 +1,6 @@
 // The scopes that are open, the innermost last. The outermost one, of the standard identifiers, is never shut.
 ghost use Rattle.std.specs.Prelude.{◌≡◌, ◌≤◌, ◌<◌, ◌+◌, ◌*◌, ◌^◌, length, IfSome};
-ghost use Rattle.gier_text.specs.Kept.{kept};
+ghost use Rattle.gier_text.specs.TablesModel.{tables_model};
 ghost use Rattle.gier_pass5.specs.Scopes.{Enters, Leaves, OpensScopes};
 ghost use Rattle.gier_pass5.specs.Lists.{HasLists, Keeps, entry_count, scope_count, scope_room};
 
@@ -24,10 +24,10 @@ const GREATEST_LEVEL: u64 = 255;
 
 /// Opens the list for a program of so many bytes, with the outermost scope.
 pub(crate) fn open(tables: &mut Tables, bytes: u32)
-    requires lists { length (kept tables.old).lists ≡ 2 }
+    requires lists { length (tables_model tables.old).lists ≡ 2 }
     requires bytes { bytes ≤ 2 ^ 19 }
-    requires fits { (kept tables.old).used + 3 * (8 * bytes + 65) ≤ 62 * (kept tables.old).limit + 4092 }
-    ensures { OpensScopes bytes (kept tables.old) (kept tables.new) }
+    requires fits { (tables_model tables.old).used + 3 * (8 * bytes + 65) ≤ 62 * (tables_model tables.old).limit + 4092 }
+    ensures { OpensScopes bytes (tables_model tables.old) (tables_model tables.new) }
 {
     tables.list(WIDTH, 8 * bytes + 65);
     tables.push(SCOPES, &[0, 0, 0]);
@@ -35,25 +35,25 @@ pub(crate) fn open(tables: &mut Tables, bytes: u32)
 
 /// The innermost scope.
 pub(crate) fn innermost(tables: &Tables) -> u32
-    requires { HasLists (kept tables.now) }
-    ensures { result + 1 ≡ scope_count (kept tables.now) }
+    requires { HasLists (tables_model tables.now) }
+    ensures { result + 1 ≡ scope_count (tables_model tables.now) }
 {
     tables.len(SCOPES) - 1
 }
 
 /// The scope around the innermost one.
 pub(crate) fn around(tables: &Tables) -> u32
-    requires { HasLists (kept tables.now) }
-    ensures { result < scope_count (kept tables.now) }
+    requires { HasLists (tables_model tables.now) }
+    ensures { result < scope_count (tables_model tables.now) }
 {
     innermost(tables).saturating_sub(1)
 }
 
 /// Opens a scope behind all entries.
 pub(crate) fn enter(tables: &mut Tables, level: u8)
-    requires lists { HasLists (kept tables.old) }
-    requires room { scope_count (kept tables.old) < scope_room (kept tables.old) }
-    ensures { Enters (kept tables.old) (kept tables.new) }
+    requires lists { HasLists (tables_model tables.old) }
+    requires room { scope_count (tables_model tables.old) < scope_room (tables_model tables.old) }
+    ensures { Enters (tables_model tables.old) (tables_model tables.new) }
 {
     let first = u64::from(entries::count(tables));
     tables.push(SCOPES, &[first, first, u64::from(level)]);
@@ -61,8 +61,8 @@ pub(crate) fn enter(tables: &mut Tables, level: u8)
 
 /// Shuts the innermost scope, with its entries.
 pub(crate) fn leave(tables: &mut Tables)
-    requires { HasLists (kept tables.old) }
-    ensures { Leaves (kept tables.old) (kept tables.new) }
+    requires { HasLists (tables_model tables.old) }
+    ensures { Leaves (tables_model tables.old) (tables_model tables.new) }
 {
     let scope = innermost(tables);
     if scope == 0 {
@@ -75,9 +75,9 @@ pub(crate) fn leave(tables: &mut Tables)
 
 /// The first entry of a scope; there may be none.
 pub(crate) fn first(tables: &Tables, scope: u32) -> u32
-    requires lists { HasLists (kept tables.now) }
-    requires scope { scope < scope_count (kept tables.now) }
-    ensures { result ≤ entry_count (kept tables.now) }
+    requires lists { HasLists (tables_model tables.now) }
+    requires scope { scope < scope_count (tables_model tables.now) }
+    ensures { result ≤ entry_count (tables_model tables.now) }
 {
     let first = tables.word(SCOPES, scope, FIRST);
     first.min(u64::from(entries::count(tables))) as u32
@@ -85,17 +85,17 @@ pub(crate) fn first(tables: &Tables, scope: u32) -> u32
 
 /// The level of a scope.
 pub(crate) fn level(tables: &Tables, scope: u32) -> u8
-    requires lists { HasLists (kept tables.now) }
-    requires scope { scope < scope_count (kept tables.now) }
+    requires lists { HasLists (tables_model tables.now) }
+    requires scope { scope < scope_count (tables_model tables.now) }
 {
     tables.word(SCOPES, scope, LEVEL).min(GREATEST_LEVEL) as u8
 }
 
 /// The entry of a scope whose declaring place comes next.
 pub(crate) fn next(tables: &Tables, scope: u32) -> Option<u32>
-    requires lists { HasLists (kept tables.now) }
-    requires scope { scope < scope_count (kept tables.now) }
-    ensures { IfSome result (λ entry. entry < entry_count (kept tables.now)) }
+    requires lists { HasLists (tables_model tables.now) }
+    requires scope { scope < scope_count (tables_model tables.now) }
+    ensures { IfSome result (λ entry. entry < entry_count (tables_model tables.now)) }
 {
     let next = tables.word(SCOPES, scope, NEXT);
     if next < u64::from(entries::count(tables)) {
@@ -107,10 +107,10 @@ pub(crate) fn next(tables: &Tables, scope: u32) -> Option<u32>
 
 /// Passes over the entry of a scope whose declaring place comes next, and gives it.
 pub(crate) fn pass_next(tables: &mut Tables, scope: u32) -> Option<u32>
-    requires lists { HasLists (kept tables.old) }
-    requires scope { scope < scope_count (kept tables.old) }
-    ensures entry { IfSome result (λ entry. entry < entry_count (kept tables.new)) }
-    ensures keeps { Keeps (kept tables.old) (kept tables.new) }
+    requires lists { HasLists (tables_model tables.old) }
+    requires scope { scope < scope_count (tables_model tables.old) }
+    ensures entry { IfSome result (λ entry. entry < entry_count (tables_model tables.new)) }
+    ensures keeps { Keeps (tables_model tables.old) (tables_model tables.new) }
 {
     let entry = next(tables, scope)?;
     tables.set_word(SCOPES, scope, NEXT, u64::from(entry) + 1);

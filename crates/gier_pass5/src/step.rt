@@ -2,20 +2,20 @@
 ghost use Rattle.std.specs.Prelude.{◌≡◌, ◌≤◌, ◌<◌, ◌+◌, ◌*◌, ◌^◌, [], Some, None, IfSome, IsTrue};
 ghost use Rattle.gier_symbol.specs.Symbols.{IsSymbol};
 ghost use Rattle.gier_symbol.specs.Texts.{stands_in};
-ghost use Rattle.gier_text.specs.Growth.{weight_of};
-ghost use Rattle.gier_text.specs.Kept.{kept};
-ghost use Rattle.gier_pass5.specs.declared.meant.Meant.{Meant};
+ghost use Rattle.gier_text.specs.Potential.{potential_of};
+ghost use Rattle.gier_text.specs.TablesModel.{tables_model};
+ghost use Rattle.gier_pass5.specs.declared.binding.Binding.{Binding};
 ghost use Rattle.gier_pass5.specs.Entries.{Adds};
 ghost use Rattle.gier_pass5.specs.Faults.{Judges};
 ghost use Rattle.gier_pass5.specs.Lists.{HasLists, Keeps, out_of, entry_count, entry_room, row_count};
-ghost use Rattle.gier_pass5.specs.Standing.{IsReady, IsTaking};
-ghost use Rattle.gier_pass5.specs.Steps.{Steps, Takes, described};
+ghost use Rattle.gier_pass5.specs.Invariant.{StateInvariant, TakingInvariant};
+ghost use Rattle.gier_pass5.specs.Steps.{Steps, Takes, entry_and_description};
 ghost use Rattle.gier_pass5.specs.Uses.{symbols_of};
 
-use crate::entries::{self, Part, Told};
-use crate::meant::Meant;
+use crate::entries::{self, Field, SymbolEntry};
+use crate::binding::Binding;
 use crate::outbox::emit;
-use crate::pass::{Pass5, is, weight_of};
+use crate::pass::{Pass5, is, potential_of};
 use crate::uses::{meant_by, nothing, put_use};
 use crate::{index, places, scopes};
 use gier_symbol::{Symbol, Tag};
@@ -28,14 +28,14 @@ const GREATEST_COUNT: u64 = (1 << 40) - 1;
 impl Pass5 {
     /// Takes a symbol, and puts what is to be written then.
     pub(crate) fn step(&mut self, s: Symbol, tables: &mut Tables)
-        requires ready { IsReady self.old (kept tables.old) }
-        requires empty { (out_of (kept tables.old)).count ≡ 0 }
-        requires light { self.old.taken + weight_of 4 s.tag ≤ 8 * self.old.bytes + 64 }
+        requires ready { StateInvariant self.old (tables_model tables.old) }
+        requires empty { (out_of (tables_model tables.old)).count ≡ 0 }
+        requires light { self.old.taken + potential_of 4 s.tag ≤ 8 * self.old.bytes + 64 }
         requires symbol { IsSymbol s }
         requires letter { IsTrue (stands_in 4 s.tag) }
-        ensures { Steps self.old (kept tables.old) s self.new (kept tables.new) }
+        ensures { Steps self.old (tables_model tables.old) s self.new (tables_model tables.new) }
     {
-        self.taken += weight_of(s);
+        self.taken += potential_of(s);
         self.position = self.position.saturating_add(1);
         if is(Tag::Identifier, s) {
             self.take_use(s, tables);
@@ -59,27 +59,27 @@ impl Pass5 {
 
     /// The innermost entry of an identifier.
     pub(crate) fn entry_of(&self, number: u64, tables: &Tables) -> Option<u32>
-        requires { IsReady self.now (kept tables.now) }
-        ensures { IfSome result (λ entry. entry < entry_count (kept tables.now)) }
+        requires { StateInvariant self.now (tables_model tables.now) }
+        ensures { IfSome result (λ entry. entry < entry_count (tables_model tables.now)) }
     {
         entries::innermost(tables, index::row_of(number, self.bytes)?)
     }
 
     // A used identifier is written as what it means.
     fn take_use(&self, s: Symbol, tables: &mut Tables)
-        requires taking { IsTaking self.now (kept tables.old) }
-        requires empty { (out_of (kept tables.old)).count ≡ 0 }
+        requires taking { TakingInvariant self.now (tables_model tables.old) }
+        requires empty { (out_of (tables_model tables.old)).count ≡ 0 }
         requires symbol { IsSymbol s }
-        ensures { (meant : Meant) × Takes self.now (kept tables.old) self.now (kept tables.new) (symbols_of meant s.line) }
+        ensures { (meant : Binding) × Takes self.now (tables_model tables.old) self.now (tables_model tables.new) (symbols_of meant s.line) }
     {
         let meant = self.meant(s, tables);
         put_use(meant, s.line, tables);
     }
 
     // What a used identifier means; that it isn't declared, or is local to the block whose bound it stands in, is a fault.
-    fn meant(&self, s: Symbol, tables: &mut Tables) -> Meant
-        requires { IsTaking self.now (kept tables.old) }
-        ensures { Judges self.now.bytes (kept tables.old) (kept tables.new) }
+    fn meant(&self, s: Symbol, tables: &mut Tables) -> Binding
+        requires { TakingInvariant self.now (tables_model tables.old) }
+        ensures { Judges self.now.bytes (tables_model tables.old) (tables_model tables.new) }
     {
         let Some(entry) = self.entry_of(s.value, tables) else {
             self.fault(s.line, FaultKind::NotDeclared, tables);
@@ -93,10 +93,10 @@ impl Pass5 {
 
     // Behind an entry the description of its identifier; else that of a formal of the last entry's procedure.
     fn take_description(&mut self, s: Symbol, tables: &mut Tables)
-        requires taking { IsTaking self.old (kept tables.old) }
-        requires empty { (out_of (kept tables.old)).count ≡ 0 }
+        requires taking { TakingInvariant self.old (tables_model tables.old) }
+        requires empty { (out_of (tables_model tables.old)).count ≡ 0 }
         requires symbol { IsSymbol s }
-        ensures takes { Takes self.old (kept tables.old) self.new (kept tables.new) (described self.old.entry s) }
+        ensures takes { Takes self.old (tables_model tables.old) self.new (tables_model tables.new) (entry_and_description self.old.entry s) }
         ensures entry { self.new.entry ≡ None }
     {
         match self.entry {
@@ -111,17 +111,17 @@ impl Pass5 {
 
     // Adds the entry that was read with its kind.
     fn add_described(&mut self, entry: Symbol, kind: u64, tables: &mut Tables)
-        requires taking { IsTaking self.old (kept tables.old) }
+        requires taking { TakingInvariant self.old (tables_model tables.old) }
         requires entry { self.old.entry ≡ Some entry }
         requires kind { kind < 2 ^ 40 }
-        ensures adds { Adds (kept tables.old) (kept tables.new) }
+        ensures adds { Adds (tables_model tables.old) (tables_model tables.new) }
         ensures entry { self.new.entry ≡ None }
         ensures bytes { self.new.bytes ≡ self.old.bytes }
         ensures taken { self.new.taken ≡ self.old.taken }
     {
         let level = scopes::level(tables, scopes::innermost(tables));
         let place = places::place(&mut self.counters, kind, level);
-        let told = Told {
+        let told = SymbolEntry {
             kind,
             place,
             count: 0,
@@ -133,9 +133,9 @@ impl Pass5 {
 
     // An own quantity in its old place: it is what it is in the block around the program.
     fn take_own(&mut self, s: Symbol, tables: &mut Tables)
-        requires taking { IsTaking self.old (kept tables.old) }
-        requires empty { (out_of (kept tables.old)).count ≡ 0 }
-        ensures takes { Takes self.old (kept tables.old) self.new (kept tables.new) [] }
+        requires taking { TakingInvariant self.old (tables_model tables.old) }
+        requires empty { (out_of (tables_model tables.old)).count ≡ 0 }
+        ensures takes { Takes self.old (tables_model tables.old) self.new (tables_model tables.new) [] }
         ensures entry { self.new.entry ≡ None }
     {
         if let Some(entry) = self.entry {
@@ -145,12 +145,12 @@ impl Pass5 {
         }
     }
 
-    fn add_entry(&self, entry: Symbol, told: Told, tables: &mut Tables)
-        requires lists { HasLists (kept tables.old) }
+    fn add_entry(&self, entry: Symbol, told: SymbolEntry, tables: &mut Tables)
+        requires lists { HasLists (tables_model tables.old) }
         requires bytes { self.now.bytes ≤ 524288 }
-        requires rows { row_count (kept tables.old) ≡ 2 * self.now.bytes + 65 }
-        requires room { entry_count (kept tables.old) < entry_room (kept tables.old) }
-        ensures { Adds (kept tables.old) (kept tables.new) }
+        requires rows { row_count (tables_model tables.old) ≡ 2 * self.now.bytes + 65 }
+        requires room { entry_count (tables_model tables.old) < entry_room (tables_model tables.old) }
+        ensures { Adds (tables_model tables.old) (tables_model tables.new) }
     {
         let first = scopes::first(tables, scopes::innermost(tables));
         entries::add(tables, index::row_of(entry.value, self.bytes), first, told);
@@ -159,43 +159,43 @@ impl Pass5 {
 
 /// Whether an entry is one of the innermost scope.
 pub(crate) fn is_innermost(entry: u32, tables: &Tables) -> bool
-    requires { HasLists (kept tables.now) }
+    requires { HasLists (tables_model tables.now) }
 {
     entry >= scopes::first(tables, scopes::innermost(tables))
 }
 
 /// The entry that was added last.
 pub(crate) fn last_entry(tables: &Tables) -> Option<u32>
-    requires { HasLists (kept tables.now) }
-    ensures { IfSome result (λ entry. entry < entry_count (kept tables.now)) }
+    requires { HasLists (tables_model tables.now) }
+    ensures { IfSome result (λ entry. entry < entry_count (tables_model tables.now)) }
 {
     entries::count(tables).checked_sub(1)
 }
 
 // One formal more of the last entry's procedure.
 fn count_formal(tables: &mut Tables)
-    requires { HasLists (kept tables.old) }
-    ensures { Keeps (kept tables.old) (kept tables.new) }
+    requires { HasLists (tables_model tables.old) }
+    ensures { Keeps (tables_model tables.old) (tables_model tables.new) }
 {
     if let Some(entry) = last_entry(tables) {
-        let count = entries::get(tables, entry, Part::Count);
-        entries::set(tables, entry, Part::Count, (count + 1).min(GREATEST_COUNT));
+        let count = entries::get(tables, entry, Field::Count);
+        entries::set(tables, entry, Field::Count, (count + 1).min(GREATEST_COUNT));
     }
 }
 
 // What the entry of an own quantity in its old place tells.
-fn told_by(own: Option<u32>, tables: &Tables) -> Told
-    requires lists { HasLists (kept tables.now) }
-    requires own { IfSome own (λ entry. entry < entry_count (kept tables.now)) }
+fn told_by(own: Option<u32>, tables: &Tables) -> SymbolEntry
+    requires lists { HasLists (tables_model tables.now) }
+    requires own { IfSome own (λ entry. entry < entry_count (tables_model tables.now)) }
 {
     match own {
-        Some(entry) => Told {
-            kind: entries::get(tables, entry, Part::Kind),
-            place: entries::get(tables, entry, Part::Place),
-            count: entries::get(tables, entry, Part::Count),
+        Some(entry) => SymbolEntry {
+            kind: entries::get(tables, entry, Field::Kind),
+            place: entries::get(tables, entry, Field::Place),
+            count: entries::get(tables, entry, Field::Count),
             own,
         },
-        None => Told {
+        None => SymbolEntry {
             kind: Kind::Undeclared.number(),
             place: 0,
             count: 0,

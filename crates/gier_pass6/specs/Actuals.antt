@@ -11,7 +11,7 @@ use Rattle.gier_pass6.specs.declared.types.ValueType.TheVariants.{Unknown, Label
 use Rattle.gier_pass6.specs.declared.uses.Meaning.{Meaning}
 use Rattle.gier_pass6.specs.Kinds.{number_of}
 use Rattle.gier_pass6.specs.Types.{fits, agree}
-use Rattle.gier_pass6.specs.Uses.{value_type, is_procedure, alone}
+use Rattle.gier_pass6.specs.Uses.{value_type, is_procedure, meaning_alone}
 
 -- the number of what an actual is compared with, as entries of the stack keep it
 abbrev pub fit_number : Fit → ℕ
@@ -69,7 +69,7 @@ meaning_fits is wanted = if agree is.value wanted then (if is.call then Calls el
 
 abbrev pub formal_fits : ValueType → Kind → Kind → ℕ → Passed
 formal_fits Unknown formal kind count = fits_if (is_same_thing formal kind count)
-formal_fits wanted formal kind count = meaning_fits (alone kind count) wanted
+formal_fits wanted formal kind count = meaning_fits (meaning_alone kind count) wanted
 
 abbrev pub name_fits_formal : Kind → Kind → ℕ → Passed
 name_fits_formal formal kind count = formal_fits (wanted_type formal) formal kind count

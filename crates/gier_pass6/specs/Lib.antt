@@ -1,7 +1,7 @@
-pub mod Opened
+pub mod EntryKinds
 pub mod Kinds
 pub mod Types
 pub mod Uses
 pub mod Actuals
-pub mod Ready
-pub mod Standing
+pub mod StateInvariants
+pub mod Invariant

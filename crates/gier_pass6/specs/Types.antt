@@ -16,9 +16,9 @@ fits Text Text = true
 fits is wanted = false
 
 -- the type of two branches: that of both, that of the other where one is unknown, and none where they differ
-abbrev pub joined : ValueType → ValueType → Option ValueType
-joined Unknown second = Some second
-joined first second = if fits second first then Some first else None
+abbrev pub common_type : ValueType → ValueType → Option ValueType
+common_type Unknown second = Some second
+common_type first second = if fits second first then Some first else None
 
 -- two types that are known and the same
 abbrev pub agree : ValueType → ValueType → Bool

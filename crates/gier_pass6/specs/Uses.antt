@@ -152,13 +152,13 @@ meaning_if true type = meaning type true
 meaning_if false type = meaning Unknown false
 
 -- alone in an expression
-abbrev pub alone : Kind → ℕ → Meaning
-alone IntegerProcedure count = meaning_if (count == 0) Integer
-alone BooleanProcedure count = meaning_if (count == 0) Boolean
-alone IntegerProcedureFormal count = meaning Integer true
-alone BooleanProcedureFormal count = meaning Boolean true
-alone InInteger count = meaning Integer true
-alone InChar count = meaning Integer true
-alone Label count = meaning LabelType false
-alone LabelFormal count = meaning LabelType false
-alone other count = meaning (value_type other) false
+abbrev pub meaning_alone : Kind → ℕ → Meaning
+meaning_alone IntegerProcedure count = meaning_if (count == 0) Integer
+meaning_alone BooleanProcedure count = meaning_if (count == 0) Boolean
+meaning_alone IntegerProcedureFormal count = meaning Integer true
+meaning_alone BooleanProcedureFormal count = meaning Boolean true
+meaning_alone InInteger count = meaning Integer true
+meaning_alone InChar count = meaning Integer true
+meaning_alone Label count = meaning LabelType false
+meaning_alone LabelFormal count = meaning LabelType false
+meaning_alone other count = meaning (value_type other) false

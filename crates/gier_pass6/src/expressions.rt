@@ -1,9 +1,9 @@
 // Operators: each waits until its right operand has ended, and is written behind it.
 ghost use Rattle.gier_symbol.specs.Symbols.{IsSymbol};
-ghost use Rattle.gier_text.specs.Kept.{kept};
+ghost use Rattle.gier_text.specs.TablesModel.{tables_model};
 
-use crate::open::{Open, STACK, What};
-use crate::state::Work;
+use crate::open::{StackEntry, STACK, EntryKind};
+use crate::state::State;
 use crate::types::operator;
 use gier_symbol::{Symbol, Tag};
 use gier_text::{FaultKind, Tables};
@@ -17,23 +17,23 @@ fn tag_of(number: u64) -> Option<Tag> {
 }
 
 // Whether the entry is an operator that binds at least as strongly as this level.
-fn binds(top: Open, level: u8) -> bool {
+fn binds(top: StackEntry, level: u8) -> bool {
     match top.what {
-        What::Operator | What::FaultyOperator => operator(tag_of(top.data)).level >= level,
+        EntryKind::Operator | EntryKind::FaultyOperator => operator(tag_of(top.data)).level >= level,
         _ => false,
     }
 }
 
-impl Work {
-    ghost use Rattle.gier_pass6.specs.Ready.{Ready, Going};
+impl State {
+    ghost use Rattle.gier_pass6.specs.StateInvariants.{StateInvariant, PreservesState};
 
     // Ends the operator that waits on the top.
-    fn operate(&mut self, tables: &mut Tables, top: Open)
-        requires ready { Ready self.old (kept tables.old) }
-        ensures { Going self.old (kept tables.old) self.new (kept tables.new) }
+    fn operate(&mut self, tables: &mut Tables, top: StackEntry)
+        requires ready { StateInvariant self.old (tables_model tables.old) }
+        ensures { PreservesState self.old (tables_model tables.old) self.new (tables_model tables.new) }
     {
         let row = operator(tag_of(top.data));
-        if top.what == What::Operator && !self.value.fits(row.takes) {
+        if top.what == EntryKind::Operator && !self.value.fits(row.takes) {
             self.raise(tables, FaultKind::Operand, top.spot);
         }
         self.value = row.gives;
@@ -43,8 +43,8 @@ impl Work {
 
     // Ends the operators that bind at least as strongly as this level.
     pub(crate) fn finish(&mut self, tables: &mut Tables, level: u8)
-        requires ready { Ready self.old (kept tables.old) }
-        ensures { Going self.old (kept tables.old) self.new (kept tables.new) }
+        requires ready { StateInvariant self.old (tables_model tables.old) }
+        ensures { PreservesState self.old (tables_model tables.old) self.new (tables_model tables.new) }
     {
         for _turn in 0..tables.len(STACK) {
             let top = self.open_at(tables, 0);
@@ -57,28 +57,28 @@ impl Work {
 
     // An operator between two operands.
     pub(crate) fn infix(&mut self, tables: &mut Tables, tag: Tag, s: Symbol)
-        requires ready { Ready self.old (kept tables.old) }
+        requires ready { StateInvariant self.old (tables_model tables.old) }
         requires symbol { IsSymbol s }
-        ensures { Going self.old (kept tables.old) self.new (kept tables.new) }
+        ensures { PreservesState self.old (tables_model tables.old) self.new (tables_model tables.new) }
     {
         let row = operator(Some(tag));
         self.finish(tables, row.level);
         let spot = self.here(s);
         if self.value.fits(row.takes) {
-            self.open_one(tables, What::Operator, u64::from(tag.number()), spot);
+            self.open_one(tables, EntryKind::Operator, u64::from(tag.number()), spot);
             return;
         }
         self.raise(tables, FaultKind::Operand, spot);
-        self.open_one(tables, What::FaultyOperator, u64::from(tag.number()), spot);
+        self.open_one(tables, EntryKind::FaultyOperator, u64::from(tag.number()), spot);
     }
 
     // An operator before its only operand.
     pub(crate) fn prefix(&mut self, tables: &mut Tables, tag: Tag, s: Symbol)
-        requires ready { Ready self.old (kept tables.old) }
+        requires ready { StateInvariant self.old (tables_model tables.old) }
         requires symbol { IsSymbol s }
-        ensures { Going self.old (kept tables.old) self.new (kept tables.new) }
+        ensures { PreservesState self.old (tables_model tables.old) self.new (tables_model tables.new) }
     {
         let spot = self.here(s);
-        self.open_one(tables, What::Operator, u64::from(tag.number()), spot);
+        self.open_one(tables, EntryKind::Operator, u64::from(tag.number()), spot);
     }
 }

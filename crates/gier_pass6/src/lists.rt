@@ -1,13 +1,13 @@
 // Subscripts and actuals: they are counted, compared with what the identifier wants, and written without their brackets and commas.
 ghost use Rattle.std.specs.Prelude.{◌≡◌};
 ghost use Rattle.gier_symbol.specs.Symbols.{IsSymbol};
-ghost use Rattle.gier_text.specs.Kept.{kept};
+ghost use Rattle.gier_text.specs.TablesModel.{tables_model};
 
 use crate::actuals::{Fit, is_free, value_fits};
 use crate::kind::{Kind, is_procedure};
-use crate::open::{Open, Spot, What, short};
-use crate::places::{At, Held, Name};
-use crate::state::Work;
+use crate::open::{StackEntry, Location, EntryKind, short};
+use crate::places::{Context, PendingName, Name};
+use crate::state::State;
 use crate::types::ValueType;
 use crate::uses::{
     ANY, element_type, formals_of, function_type, may_be_called, standard_formal, subscripts_of,
@@ -29,90 +29,90 @@ const WANTED: u32 = 1;
 
 const OWNER: u32 = 2;
 
-impl Work {
-    ghost use Rattle.gier_pass6.specs.Ready.{Ready, Going};
+impl State {
+    ghost use Rattle.gier_pass6.specs.StateInvariants.{StateInvariant, PreservesState};
 
     // A `[`.
     pub(crate) fn left_bracket(&mut self, tables: &mut Tables, s: Symbol)
-        requires ready { Ready self.old (kept tables.old) }
+        requires ready { StateInvariant self.old (tables_model tables.old) }
         requires symbol { IsSymbol s }
-        ensures { Going self.old (kept tables.old) self.new (kept tables.new) }
+        ensures { PreservesState self.old (tables_model tables.old) self.new (tables_model tables.new) }
     {
-        if let Held::Name(name) = self.held {
-            self.held = Held::Nothing;
+        if let PendingName::Name(name) = self.held {
+            self.held = PendingName::Nothing;
             self.subscripts_begin(tables, name, s);
             return;
         }
-        self.held = Held::Nothing;
+        self.held = PendingName::Nothing;
         self.write(tables, s);
     }
 
     fn subscripts_begin(&mut self, tables: &mut Tables, name: Name, s: Symbol)
-        requires ready { Ready self.old (kept tables.old) }
+        requires ready { StateInvariant self.old (tables_model tables.old) }
         requires symbol { IsSymbol s }
-        ensures { Going self.old (kept tables.old) self.new (kept tables.new) }
+        ensures { PreservesState self.old (tables_model tables.old) self.new (tables_model tables.new) }
     {
         let value = element_type(name.kind);
         if value == ValueType::Unknown {
             self.raise(tables, FaultKind::Kind, name.spot);
         }
         let what = match name.at {
-            At::Statement | At::LeftPart => What::LeftElement,
-            _ => What::Element,
+            Context::Statement | Context::LeftPart => EntryKind::LeftElement,
+            _ => EntryKind::Element,
         };
         let wanted = subscripts_of(name.kind, name.count);
         self.open_one(tables, what, value.number(), name.spot);
-        self.open_one(tables, What::Wanted, wanted, name.spot);
-        self.open_one(tables, What::Bracket, 0, self.here(s));
+        self.open_one(tables, EntryKind::Wanted, wanted, name.spot);
+        self.open_one(tables, EntryKind::Bracket, 0, self.here(s));
     }
 
     // A `(`.
     pub(crate) fn left_parenthesis(&mut self, tables: &mut Tables, s: Symbol)
-        requires ready { Ready self.old (kept tables.old) }
+        requires ready { StateInvariant self.old (tables_model tables.old) }
         requires symbol { IsSymbol s }
-        ensures { Going self.old (kept tables.old) self.new (kept tables.new) }
+        ensures { PreservesState self.old (tables_model tables.old) self.new (tables_model tables.new) }
     {
-        if let Held::Name(name) = self.held {
-            self.held = Held::Nothing;
+        if let PendingName::Name(name) = self.held {
+            self.held = PendingName::Nothing;
             self.call_begins(tables, name, s);
             return;
         }
-        self.held = Held::Nothing;
-        self.open_one(tables, What::Parenthesis, 0, self.here(s));
+        self.held = PendingName::Nothing;
+        self.open_one(tables, EntryKind::Parenthesis, 0, self.here(s));
         self.write(tables, s);
     }
 
     fn call_begins(&mut self, tables: &mut Tables, name: Name, s: Symbol)
-        requires ready { Ready self.old (kept tables.old) }
+        requires ready { StateInvariant self.old (tables_model tables.old) }
         requires symbol { IsSymbol s }
-        ensures { Going self.old (kept tables.old) self.new (kept tables.new) }
+        ensures { PreservesState self.old (tables_model tables.old) self.new (tables_model tables.new) }
     {
         let mut kind = name.kind;
-        if !may_be_called(kind, name.count, name.at == At::Statement) {
+        if !may_be_called(kind, name.count, name.at == Context::Statement) {
             self.raise(tables, FaultKind::Kind, name.spot);
             kind = Kind::Undeclared;
         }
         let wanted = formals_of(name.kind, name.count);
-        let callee = Spot {
+        let callee = Location {
             position: short(name.number),
             line: name.spot.line,
         };
-        self.open_one(tables, What::Callee, kind.number(), callee);
-        self.open_one(tables, What::Wanted, wanted, name.spot);
-        self.open_one(tables, What::Call, 0, self.here(s));
+        self.open_one(tables, EntryKind::Callee, kind.number(), callee);
+        self.open_one(tables, EntryKind::Wanted, wanted, name.spot);
+        self.open_one(tables, EntryKind::Call, 0, self.here(s));
     }
 
     // Counts the subscript, actual or bound that begins, where the entry on the top counts such; gives its number.
-    pub(crate) fn count_one(&mut self, tables: &mut Tables, counter: What, most: u64) -> u64
-        requires ready { Ready self.old (kept tables.old) }
-        ensures { Going self.old (kept tables.old) self.new (kept tables.new) }
+    pub(crate) fn count_one(&mut self, tables: &mut Tables, counter: EntryKind, most: u64) -> u64
+        requires ready { StateInvariant self.old (tables_model tables.old) }
+        ensures { PreservesState self.old (tables_model tables.old) self.new (tables_model tables.new) }
     {
         let top = self.open_at(tables, 0);
         if top.what != counter {
             return 0;
         }
         let count = top.data.saturating_add(1);
-        self.change(tables, 0, Open { data: count, ..top });
+        self.change(tables, 0, StackEntry { data: count, ..top });
         if count.saturating_sub(1) == most {
             self.raise(tables, FaultKind::ListTooLong, self.before());
         }
@@ -121,9 +121,9 @@ impl Work {
 
     // A subscript or actual that has ended doesn't fit. The fault stands at the symbol before it. At the opening bracket it waits for the
     // number, and where the list is too long, that is the fault there.
-    pub(crate) fn misfit(&mut self, tables: &mut Tables, most: u64, kind: FaultKind, spot: Spot)
-        requires ready { Ready self.old (kept tables.old) }
-        ensures { Going self.old (kept tables.old) self.new (kept tables.new) }
+    pub(crate) fn misfit(&mut self, tables: &mut Tables, most: u64, kind: FaultKind, spot: Location)
+        requires ready { StateInvariant self.old (tables_model tables.old) }
+        ensures { PreservesState self.old (tables_model tables.old) self.new (tables_model tables.new) }
     {
         let count = self.open_at(tables, 0).data;
         if count == 1 {
@@ -131,8 +131,8 @@ impl Work {
             self.change(
                 tables,
                 WANTED,
-                Open {
-                    what: What::FaultyWanted,
+                StackEntry {
+                    what: EntryKind::FaultyWanted,
                     ..wanted
                 },
             );
@@ -143,13 +143,13 @@ impl Work {
 
     // A `]`.
     pub(crate) fn right_bracket(&mut self, tables: &mut Tables, s: Symbol)
-        requires ready { Ready self.old (kept tables.old) }
+        requires ready { StateInvariant self.old (tables_model tables.old) }
         requires symbol { IsSymbol s }
-        ensures { Going self.old (kept tables.old) self.new (kept tables.new) }
+        ensures { PreservesState self.old (tables_model tables.old) self.new (tables_model tables.new) }
     {
         self.finish(tables, 0);
         let bracket = self.open_at(tables, 0);
-        if bracket.what != What::Bracket {
+        if bracket.what != EntryKind::Bracket {
             self.write(tables, s);
             return;
         }
@@ -164,43 +164,43 @@ impl Work {
     }
 
     // An element of an array or switch has ended. Where a left part may stand, it is held.
-    fn element_ends(&mut self, owner: Open)
+    fn element_ends(&mut self, owner: StackEntry)
         ensures bytes { self.new.bytes ≡ self.old.bytes }
-        ensures credit { self.new.credit ≡ self.old.credit }
+        ensures potential_left { self.new.potential_left ≡ self.old.potential_left }
     {
         self.value = ValueType::of(owner.data);
-        if owner.what == What::LeftElement {
-            self.held = Held::Element(self.value, owner.spot);
+        if owner.what == EntryKind::LeftElement {
+            self.held = PendingName::Element(self.value, owner.spot);
         }
     }
 
     // A `)`.
     pub(crate) fn right_parenthesis(&mut self, tables: &mut Tables, s: Symbol)
-        requires ready { Ready self.old (kept tables.old) }
+        requires ready { StateInvariant self.old (tables_model tables.old) }
         requires symbol { IsSymbol s }
-        ensures { Going self.old (kept tables.old) self.new (kept tables.new) }
+        ensures { PreservesState self.old (tables_model tables.old) self.new (tables_model tables.new) }
     {
         self.finish(tables, 0);
         let top = self.open_at(tables, 0);
-        if top.what == What::Call {
+        if top.what == EntryKind::Call {
             self.call_ends(tables, top);
             return;
         }
-        if top.what == What::Parenthesis {
+        if top.what == EntryKind::Parenthesis {
             self.pop(tables, 1);
         }
         self.write(tables, s);
     }
 
-    fn call_ends(&mut self, tables: &mut Tables, call: Open)
-        requires ready { Ready self.old (kept tables.old) }
-        ensures { Going self.old (kept tables.old) self.new (kept tables.new) }
+    fn call_ends(&mut self, tables: &mut Tables, call: StackEntry)
+        requires ready { StateInvariant self.old (tables_model tables.old) }
+        ensures { PreservesState self.old (tables_model tables.old) self.new (tables_model tables.new) }
     {
         let wanted = self.open_at(tables, WANTED);
         let callee = self.open_at(tables, OWNER);
         if differs(wanted, call.data) {
             self.raise(tables, FaultKind::ParameterCount, call.spot);
-        } else if wanted.what == What::FaultyWanted {
+        } else if wanted.what == EntryKind::FaultyWanted {
             self.raise(tables, FaultKind::Parameter, call.spot);
         }
         self.value = function_type(Kind::of(callee.data));
@@ -210,12 +210,12 @@ impl Work {
 
     // A `,`: between subscripts and actuals it isn't written.
     pub(crate) fn comma(&mut self, tables: &mut Tables, s: Symbol)
-        requires ready { Ready self.old (kept tables.old) }
+        requires ready { StateInvariant self.old (tables_model tables.old) }
         requires symbol { IsSymbol s }
-        ensures { Going self.old (kept tables.old) self.new (kept tables.new) }
+        ensures { PreservesState self.old (tables_model tables.old) self.new (tables_model tables.new) }
     {
         match self.open_at(tables, 0).what {
-            What::Bracket | What::Call => {}
+            EntryKind::Bracket | EntryKind::Call => {}
             _ => self.write(tables, s),
         }
     }
@@ -227,7 +227,7 @@ impl Work {
 
     // What the actual of this number is compared with, where the call is on the top; the first one is 1.
     pub(crate) fn fit_of(&self, tables: &Tables, count: u64) -> Fit
-        requires ready { Ready self.now (kept tables.now) }
+        requires ready { StateInvariant self.now (tables_model tables.now) }
     {
         let wanted = self.open_at(tables, WANTED);
         let callee = self.open_at(tables, OWNER);
@@ -235,7 +235,7 @@ impl Work {
         if is_free(kind) {
             return Fit::Free;
         }
-        if count == 0 || count > wanted.data || callee.what != What::Callee {
+        if count == 0 || count > wanted.data || callee.what != EntryKind::Callee {
             return Fit::Anything;
         }
         if is_procedure(kind) {
@@ -249,11 +249,11 @@ impl Work {
 }
 
 // Whether there must be another number.
-fn differs(wanted: Open, count: u64) -> bool {
+fn differs(wanted: StackEntry, count: u64) -> bool {
     wanted.data != ANY && wanted.data != count
 }
 
 // Whether the number or the first of the subscripts is a fault.
-fn is_wrong(wanted: Open, count: u64) -> bool {
-    differs(wanted, count) || wanted.what == What::FaultyWanted
+fn is_wrong(wanted: StackEntry, count: u64) -> bool {
+    differs(wanted, count) || wanted.what == EntryKind::FaultyWanted
 }

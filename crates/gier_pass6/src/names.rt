@@ -1,13 +1,13 @@
 // A used identifier: it is held until the symbol behind it tells how it is used.
 ghost use Rattle.std.specs.Prelude.{◌≡◌};
 ghost use Rattle.gier_symbol.specs.Symbols.{IsSymbol};
-ghost use Rattle.gier_text.specs.Kept.{kept};
+ghost use Rattle.gier_text.specs.TablesModel.{tables_model};
 
 use crate::actuals::{Fit, Passed, name_fits};
 use crate::kind::Kind;
-use crate::open::{Open, Spot, What};
-use crate::places::{At, Held, Name};
-use crate::state::Work;
+use crate::open::{StackEntry, Location, EntryKind};
+use crate::places::{Context, PendingName, Name};
+use crate::state::State;
 use crate::types::ValueType;
 use crate::uses::{alone, function_type, may_be_controlled, may_be_statement, value_type};
 use gier_symbol::{Symbol, Tag};
@@ -16,15 +16,15 @@ use gier_text::{FaultKind, Tables};
 // What a place is multiplied by for the level.
 const LEVEL: u64 = 1 << 24;
 
-impl Work {
-    ghost use Rattle.gier_pass6.specs.Ready.{Ready, Going};
+impl State {
+    ghost use Rattle.gier_pass6.specs.StateInvariants.{StateInvariant, PreservesState};
 
     // The description of a used identifier.
     pub(crate) fn hold(&mut self, s: Symbol)
         ensures bytes { self.new.bytes ≡ self.old.bytes }
-        ensures credit { self.new.credit ≡ self.old.credit }
+        ensures potential_left { self.new.potential_left ≡ self.old.potential_left }
     {
-        self.held = Held::Name(Name {
+        self.held = PendingName::Name(Name {
             kind: Kind::of(s.value),
             number: 0,
             count: 0,
@@ -36,10 +36,10 @@ impl Work {
     // Its place.
     pub(crate) fn hold_place(&mut self, s: Symbol)
         ensures bytes { self.new.bytes ≡ self.old.bytes }
-        ensures credit { self.new.credit ≡ self.old.credit }
+        ensures potential_left { self.new.potential_left ≡ self.old.potential_left }
     {
-        if let Held::Name(name) = self.held {
-            self.held = Held::Name(Name {
+        if let PendingName::Name(name) = self.held {
+            self.held = PendingName::Name(Name {
                 number: s.value % LEVEL,
                 ..name
             });
@@ -49,10 +49,10 @@ impl Work {
     // Its number of dimensions or formals.
     pub(crate) fn hold_count(&mut self, s: Symbol)
         ensures bytes { self.new.bytes ≡ self.old.bytes }
-        ensures credit { self.new.credit ≡ self.old.credit }
+        ensures potential_left { self.new.potential_left ≡ self.old.potential_left }
     {
-        if let Held::Name(name) = self.held {
-            self.held = Held::Name(Name {
+        if let PendingName::Name(name) = self.held {
+            self.held = PendingName::Name(Name {
                 count: s.value,
                 ..name
             });
@@ -61,13 +61,13 @@ impl Work {
 
     // Ends what is held as an identifier alone or as an operand.
     pub(crate) fn settle(&mut self, tables: &mut Tables)
-        requires ready { Ready self.old (kept tables.old) }
-        ensures { Going self.old (kept tables.old) self.new (kept tables.new) }
+        requires ready { StateInvariant self.old (tables_model tables.old) }
+        ensures { PreservesState self.old (tables_model tables.old) self.new (tables_model tables.new) }
     {
         let held = self.held;
-        self.held = Held::Nothing;
-        if let Held::Name(name) = held {
-            if name.at == At::Statement {
+        self.held = PendingName::Nothing;
+        if let PendingName::Name(name) = held {
+            if name.at == Context::Statement {
                 self.call_alone(tables, name);
             } else {
                 self.operand_alone(tables, name);
@@ -76,8 +76,8 @@ impl Work {
     }
 
     fn call_alone(&mut self, tables: &mut Tables, name: Name)
-        requires ready { Ready self.old (kept tables.old) }
-        ensures { Going self.old (kept tables.old) self.new (kept tables.new) }
+        requires ready { StateInvariant self.old (tables_model tables.old) }
+        ensures { PreservesState self.old (tables_model tables.old) self.new (tables_model tables.new) }
     {
         if !may_be_statement(name.kind, name.count) {
             self.raise(tables, FaultKind::Kind, name.spot);
@@ -86,8 +86,8 @@ impl Work {
     }
 
     fn operand_alone(&mut self, tables: &mut Tables, name: Name)
-        requires ready { Ready self.old (kept tables.old) }
-        ensures { Going self.old (kept tables.old) self.new (kept tables.new) }
+        requires ready { StateInvariant self.old (tables_model tables.old) }
+        ensures { PreservesState self.old (tables_model tables.old) self.new (tables_model tables.new) }
     {
         let is = alone(name.kind, name.count);
         self.value = is.value;
@@ -101,8 +101,8 @@ impl Work {
 
     // An actual that is the identifier alone; whether it fits.
     pub(crate) fn actual_alone(&mut self, tables: &mut Tables, name: Name, fit: Fit) -> bool
-        requires ready { Ready self.old (kept tables.old) }
-        ensures { Going self.old (kept tables.old) self.new (kept tables.new) }
+        requires ready { StateInvariant self.old (tables_model tables.old) }
+        ensures { PreservesState self.old (tables_model tables.old) self.new (tables_model tables.new) }
     {
         match name_fits(fit, name.kind, name.count) {
             Passed::Fits => true,
@@ -116,26 +116,26 @@ impl Work {
 
     // A `:=`.
     pub(crate) fn becomes(&mut self, tables: &mut Tables, s: Symbol)
-        requires ready { Ready self.old (kept tables.old) }
+        requires ready { StateInvariant self.old (tables_model tables.old) }
         requires symbol { IsSymbol s }
-        ensures { Going self.old (kept tables.old) self.new (kept tables.new) }
+        ensures { PreservesState self.old (tables_model tables.old) self.new (tables_model tables.new) }
     {
         let held = self.held;
-        self.held = Held::Nothing;
+        self.held = PendingName::Nothing;
         match held {
-            Held::Nothing => {}
-            Held::Name(name) => self.name_becomes(tables, name, s),
-            Held::Element(value, spot) => self.element_becomes(tables, value, spot, s),
+            PendingName::Nothing => {}
+            PendingName::Name(name) => self.name_becomes(tables, name, s),
+            PendingName::Element(value, spot) => self.element_becomes(tables, value, spot, s),
         }
         self.write(tables, s);
     }
 
     fn name_becomes(&mut self, tables: &mut Tables, name: Name, s: Symbol)
-        requires ready { Ready self.old (kept tables.old) }
+        requires ready { StateInvariant self.old (tables_model tables.old) }
         requires symbol { IsSymbol s }
-        ensures { Going self.old (kept tables.old) self.new (kept tables.new) }
+        ensures { PreservesState self.old (tables_model tables.old) self.new (tables_model tables.new) }
     {
-        if name.at == At::Variable {
+        if name.at == Context::Variable {
             if !may_be_controlled(name.kind) {
                 self.raise(tables, FaultKind::Kind, name.spot);
             }
@@ -145,30 +145,30 @@ impl Work {
         if value == ValueType::Unknown {
             self.raise(tables, FaultKind::Kind, name.spot);
         }
-        self.open_one(tables, What::LeftPart, value.number(), self.here(s));
+        self.open_one(tables, EntryKind::LeftPart, value.number(), self.here(s));
     }
 
-    fn element_becomes(&mut self, tables: &mut Tables, value: ValueType, spot: Spot, s: Symbol)
-        requires ready { Ready self.old (kept tables.old) }
+    fn element_becomes(&mut self, tables: &mut Tables, value: ValueType, spot: Location, s: Symbol)
+        requires ready { StateInvariant self.old (tables_model tables.old) }
         requires symbol { IsSymbol s }
-        ensures { Going self.old (kept tables.old) self.new (kept tables.new) }
+        ensures { PreservesState self.old (tables_model tables.old) self.new (tables_model tables.new) }
     {
         if value == ValueType::Label {
             self.raise(tables, FaultKind::Kind, spot);
             self.open_one(
                 tables,
-                What::LeftPart,
+                EntryKind::LeftPart,
                 ValueType::Unknown.number(),
                 self.here(s),
             );
             return;
         }
-        self.open_one(tables, What::LeftPart, value.number(), self.here(s));
+        self.open_one(tables, EntryKind::LeftPart, value.number(), self.here(s));
     }
 
     // The type of an identifier alone as a left part: a variable, or a function within its own declaration.
     fn left_type(&self, tables: &Tables, name: Name) -> ValueType
-        requires ready { Ready self.now (kept tables.now) }
+        requires ready { StateInvariant self.now (tables_model tables.now) }
     {
         match name.kind {
             Kind::IntegerProcedure | Kind::BooleanProcedure => {

@@ -1,9 +1,9 @@
 // What is open while symbols are taken: a stack of operators, brackets and constructs, each with the symbol at which a fault would stand.
 ghost use Rattle.std.specs.Prelude.{◌≡◌, ◌<◌, ◌≤◌, ◌*◌, ◌+◌, ◌^◌};
-ghost use Rattle.gier_text.specs.Kept.{kept};
-ghost use Rattle.gier_pass6.specs.Opened.{number_of};
+ghost use Rattle.gier_text.specs.TablesModel.{tables_model};
+ghost use Rattle.gier_pass6.specs.EntryKinds.{number_of};
 
-use crate::state::{Work, room};
+use crate::state::{State, room};
 use gier_text::Tables;
 use std::cmp;
 
@@ -28,7 +28,7 @@ const LAST_U32: u64 = (1 << 32) - 1;
 
 /// What an entry stands for. The number of a variant is how it is kept.
 #[derive(Debug, Clone, Copy, PartialEq, Eq)]
-pub(crate) enum What {
+pub(crate) enum EntryKind {
     Nothing = 0,
     /// An operator whose right operand is still to come; its data is its tag.
     Operator = 1,
@@ -73,8 +73,8 @@ pub(crate) enum What {
     Conditional = 24,
 }
 
-impl What {
-    ghost use Rattle.gier_pass6.specs.declared.open.What.{What};
+impl EntryKind {
+    ghost use Rattle.gier_pass6.specs.declared.open.EntryKind.{EntryKind};
 
     fn number(self) -> u64
         ensures number { result ≡ number_of self }
@@ -83,60 +83,60 @@ impl What {
         self as u64
     }
 
-    fn of(number: u64) -> What
-        ensures { (what : What) → number_of what ≡ number → result ≡ what }
+    fn of(number: u64) -> EntryKind
+        ensures { (what : EntryKind) → number_of what ≡ number → result ≡ what }
     {
         match number {
-            1 => What::Operator,
-            2 => What::FaultyOperator,
-            3 => What::Parenthesis,
-            4 => What::LeftPart,
-            5 => What::Element,
-            6 => What::LeftElement,
-            7 => What::Callee,
-            8 => What::Wanted,
-            9 => What::FaultyWanted,
-            10 => What::Bracket,
-            11 => What::Call,
-            12 => What::Plain,
-            13 => What::Block,
-            14 => What::Segment,
-            15 => What::Procedure,
-            16 => What::IfStatement,
-            17 => What::Actual,
-            18 => What::Subscript,
-            19 => What::Bound,
-            20 => What::SwitchElement,
-            21 => What::ForElement,
-            22 => What::WhileElement,
-            23 => What::Goto,
-            24 => What::Conditional,
-            _ => What::Nothing,
+            1 => EntryKind::Operator,
+            2 => EntryKind::FaultyOperator,
+            3 => EntryKind::Parenthesis,
+            4 => EntryKind::LeftPart,
+            5 => EntryKind::Element,
+            6 => EntryKind::LeftElement,
+            7 => EntryKind::Callee,
+            8 => EntryKind::Wanted,
+            9 => EntryKind::FaultyWanted,
+            10 => EntryKind::Bracket,
+            11 => EntryKind::Call,
+            12 => EntryKind::Plain,
+            13 => EntryKind::Block,
+            14 => EntryKind::Segment,
+            15 => EntryKind::Procedure,
+            16 => EntryKind::IfStatement,
+            17 => EntryKind::Actual,
+            18 => EntryKind::Subscript,
+            19 => EntryKind::Bound,
+            20 => EntryKind::SwitchElement,
+            21 => EntryKind::ForElement,
+            22 => EntryKind::WhileElement,
+            23 => EntryKind::Goto,
+            24 => EntryKind::Conditional,
+            _ => EntryKind::Nothing,
         }
     }
 }
 
 /// A place of the text: how many symbols come before it, and its line.
 #[derive(Debug, Clone, Copy, PartialEq, Eq)]
-pub(crate) struct Spot {
+pub(crate) struct Location {
     pub(crate) position: u32,
     pub(crate) line: u32,
 }
 
 /// An entry of the stack.
 #[derive(Debug, Clone, Copy, PartialEq, Eq)]
-pub(crate) struct Open {
-    pub(crate) what: What,
+pub(crate) struct StackEntry {
+    pub(crate) what: EntryKind,
     pub(crate) data: u64,
     /// The symbol at which a fault would stand.
-    pub(crate) spot: Spot,
+    pub(crate) spot: Location,
 }
 
 // What stands below the whole stack.
-const NOTHING: Open = Open {
-    what: What::Nothing,
+const NOTHING: StackEntry = StackEntry {
+    what: EntryKind::Nothing,
     data: 0,
-    spot: Spot {
+    spot: Location {
         position: 0,
         line: 0,
     },
@@ -147,22 +147,22 @@ pub(crate) fn short(word: u64) -> u32 {
     cmp::min(word, LAST_U32) as u32
 }
 
-impl Work {
-    ghost use Rattle.gier_pass6.specs.Ready.{Ready, Going};
+impl State {
+    ghost use Rattle.gier_pass6.specs.StateInvariants.{StateInvariant, PreservesState};
 
     // The entry that so many others stand upon.
-    pub(crate) fn open_at(&self, tables: &Tables, depth: u32) -> Open
-        requires ready { Ready self.now (kept tables.now) }
+    pub(crate) fn open_at(&self, tables: &Tables, depth: u32) -> StackEntry
+        requires ready { StateInvariant self.now (tables_model tables.now) }
     {
         let count = tables.len(STACK);
         if count <= depth {
             return NOTHING;
         }
         let at = count - depth - 1;
-        Open {
-            what: What::of(tables.word(STACK, at, WHAT)),
+        StackEntry {
+            what: EntryKind::of(tables.word(STACK, at, WHAT)),
             data: tables.word(STACK, at, DATA),
-            spot: Spot {
+            spot: Location {
                 position: short(tables.word(STACK, at, PLACE)),
                 line: short(tables.word(STACK, at, LINE)),
             },
@@ -170,9 +170,9 @@ impl Work {
     }
 
     // Puts an entry upon the others.
-    pub(crate) fn open_one(&self, tables: &mut Tables, what: What, data: u64, spot: Spot)
-        requires ready { Ready self.now (kept tables.old) }
-        ensures { Going self.now (kept tables.old) self.now (kept tables.new) }
+    pub(crate) fn open_one(&self, tables: &mut Tables, what: EntryKind, data: u64, spot: Location)
+        requires ready { StateInvariant self.now (tables_model tables.old) }
+        ensures { PreservesState self.now (tables_model tables.old) self.now (tables_model tables.new) }
     {
         if tables.len(STACK) < room(self.bytes) {
             tables.push(
@@ -189,8 +189,8 @@ impl Work {
 
     // Takes so many entries away.
     pub(crate) fn pop(&self, tables: &mut Tables, count: u32)
-        requires ready { Ready self.now (kept tables.old) }
-        ensures { Going self.now (kept tables.old) self.now (kept tables.new) }
+        requires ready { StateInvariant self.now (tables_model tables.old) }
+        ensures { PreservesState self.now (tables_model tables.old) self.now (tables_model tables.new) }
     {
         let len = tables.len(STACK);
         if count <= len {
@@ -199,9 +199,9 @@ impl Work {
     }
 
     // Changes the entry that so many others stand upon.
-    pub(crate) fn change(&self, tables: &mut Tables, depth: u32, open: Open)
-        requires ready { Ready self.now (kept tables.old) }
-        ensures { Going self.now (kept tables.old) self.now (kept tables.new) }
+    pub(crate) fn change(&self, tables: &mut Tables, depth: u32, open: StackEntry)
+        requires ready { StateInvariant self.now (tables_model tables.old) }
+        ensures { PreservesState self.now (tables_model tables.old) self.now (tables_model tables.new) }
     {
         let count = tables.len(STACK);
         if count <= depth {

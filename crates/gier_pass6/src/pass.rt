@@ -1,14 +1,14 @@
 // The pass: what it has taken, and how it is driven.
 ghost use Rattle.std.specs.Prelude.{◌≡◌, ◌≤◌, ◌+◌, ◌*◌, []};
 ghost use Rattle.gier_symbol.specs.Symbols.{IsSymbol};
-ghost use Rattle.gier_text.specs.Growth.{IsLight, weight_of};
-ghost use Rattle.gier_text.specs.Kept.{kept, fresh};
-ghost use Rattle.gier_pass6.specs.Standing.{Stands};
+ghost use Rattle.gier_text.specs.Potential.{IsWithinPotential, potential_of};
+ghost use Rattle.gier_text.specs.TablesModel.{tables_model, fresh};
+ghost use Rattle.gier_pass6.specs.Invariant.{PassInvariant};
 
 use crate::heads::{NAMES, WORD_WIDTH};
 use crate::open::STACK_WIDTH;
-use crate::places::{At, Held};
-use crate::state::{OUTBOX, Work, numbered_room, room};
+use crate::places::{Context, PendingName};
+use crate::state::{OUTBOX, State, numbered_room, room};
 use crate::types::ValueType;
 use gier_symbol::{Alphabet, Coded, Symbol, Tag};
 use gier_text::{OUTBOX_WIDTH, Pass, PassStop, Tables, Text, flush};
@@ -23,19 +23,19 @@ const STANDARD_ROOM: u32 = 64;
 #[derive(Debug, Drop)]
 pub struct Pass6 {
     // What the symbols that were taken weigh together.
-    weight: u32,
-    work: Work,
+    potential: u32,
+    work: State,
 }
 
 impl Pass6 {
     /// The pass over text 5 of a program of so many bytes. The tables must be cleared and hold no fault.
     pub fn open(tables: &mut Tables, bytes: u32) -> Pass6
-        requires cleared { kept tables.old ≡ fresh (kept tables.old).limit }
-        requires bytes { bytes ≤ (kept tables.old).limit }
-        ensures stands { Stands result (kept tables.new) [] [] }
+        requires cleared { tables_model tables.old ≡ fresh (tables_model tables.old).limit }
+        requires bytes { bytes ≤ (tables_model tables.old).limit }
+        ensures stands { PassInvariant result (tables_model tables.new) [] [] }
         ensures bytes { result.work.bytes ≡ bytes }
-        ensures faults { (kept tables.new).faults ≡ [] }
-        ensures limit { (kept tables.new).limit ≡ (kept tables.old).limit }
+        ensures faults { (tables_model tables.new).faults ≡ [] }
+        ensures limit { (tables_model tables.new).limit ≡ (tables_model tables.old).limit }
     {
         tables.list(OUTBOX_WIDTH, room(bytes));
         tables.list(STACK_WIDTH, room(bytes));
@@ -46,15 +46,15 @@ impl Pass6 {
             tables.push(NAMES, &[0]);
         }
         Pass6 {
-            weight: 0,
-            work: Work {
+            potential: 0,
+            work: State {
                 bytes,
-                credit: 0,
+                potential_left: 0,
                 read: 0,
                 line: 0,
                 value: ValueType::Unknown,
-                held: Held::Nothing,
-                at: At::Operand,
+                held: PendingName::Nothing,
+                at: Context::Operand,
                 entry: None,
                 formals: 0,
             },
@@ -63,8 +63,8 @@ impl Pass6 {
 }
 
 // What a symbol of text 5 weighs: a used identifier may be a call.
-fn weight_of(s: Symbol) -> u32
-    ensures { result ≡ weight_of 5 s.tag }
+fn potential_of(s: Symbol) -> u32
+    ensures { result ≡ potential_of 5 s.tag }
 {
     if s.tag == Tag::Used.number() { 2 } else { 1 }
 }
@@ -80,11 +80,11 @@ impl Pass for Pass6 {
 
     ghost GROWTH = { 8 };
 
-    ghost stands = { λ pass tables read written. Stands pass (kept tables) read written };
+    ghost stands = { λ pass tables read written. PassInvariant pass (tables_model tables) read written };
 
-    ghost relates = { λ pass tables read written. IsLight 6 pass.work.bytes written };
+    ghost relates = { λ pass tables read written. IsWithinPotential 6 pass.work.bytes written };
 
-    ghost expects = { λ pass list. IsLight 5 pass.work.bytes list };
+    ghost expects = { λ pass list. IsWithinPotential 5 pass.work.bytes list };
 
     ghost most = { λ pass. 8 * pass.work.bytes + 64 };
 
@@ -96,16 +96,16 @@ impl Pass for Pass6 {
         tables: &mut Tables,
     ) -> Result<(), PassStop> {
         let symbol = s.symbol();
-        let weight = weight_of(symbol);
-        if weight > room(self.work.bytes) - self.weight {
+        let potential = potential_of(symbol);
+        if potential > room(self.work.bytes) - self.potential {
             let [word, _] = symbol.code();
             return Err(PassStop::Spoilt(Odd {
                 place: u64::from(self.work.read),
                 word,
             }));
         }
-        self.weight += weight;
-        self.work.credit += weight;
+        self.potential += potential;
+        self.work.potential_left += potential;
         self.work.step(tables, symbol);
         flush(store, out, tables, OUTBOX)
     }

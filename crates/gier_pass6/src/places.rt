@@ -1,12 +1,12 @@
 // Where an identifier stands, and what is held of it until the symbol behind it tells how it is used.
 use crate::kind::Kind;
-use crate::open::{Open, Spot, What};
+use crate::open::{StackEntry, Location, EntryKind};
 use crate::types::ValueType;
 use gier_symbol::Tag;
 
 /// What the next symbol begins.
 #[derive(Debug, Clone, Copy, PartialEq, Eq)]
-pub(crate) enum At {
+pub(crate) enum Context {
     /// A statement may begin.
     Statement,
     /// Another left part or the right side may begin.
@@ -27,34 +27,34 @@ pub(crate) struct Name {
     pub(crate) number: u64,
     /// How many dimensions or formals it has.
     pub(crate) count: u64,
-    pub(crate) spot: Spot,
-    pub(crate) at: At,
+    pub(crate) spot: Location,
+    pub(crate) at: Context,
 }
 
 /// What is held until the next symbol.
 #[derive(Debug, Clone, Copy, PartialEq, Eq)]
-pub(crate) enum Held {
+pub(crate) enum PendingName {
     Nothing,
     Name(Name),
     /// An identifier with its subscripts, where a left part may stand: the type and the place of the identifier.
-    Element(ValueType, Spot),
+    Element(ValueType, Location),
 }
 
 /// The kinds of constructs, by the numbers of their marks.
-pub(crate) fn construct(number: u64) -> What {
+pub(crate) fn construct(number: u64) -> EntryKind {
     match number {
-        2 => What::Block,
-        5 => What::Segment,
-        7 => What::Procedure,
-        11 => What::IfStatement,
-        12 => What::Actual,
-        13 => What::Subscript,
-        14 => What::Bound,
-        15 => What::SwitchElement,
-        16 => What::ForElement,
-        17 => What::Goto,
-        18 => What::Conditional,
-        _ => What::Plain,
+        2 => EntryKind::Block,
+        5 => EntryKind::Segment,
+        7 => EntryKind::Procedure,
+        11 => EntryKind::IfStatement,
+        12 => EntryKind::Actual,
+        13 => EntryKind::Subscript,
+        14 => EntryKind::Bound,
+        15 => EntryKind::SwitchElement,
+        16 => EntryKind::ForElement,
+        17 => EntryKind::Goto,
+        18 => EntryKind::Conditional,
+        _ => EntryKind::Plain,
     }
 }
 
@@ -62,26 +62,26 @@ pub(crate) fn construct(number: u64) -> What {
 pub(crate) const SWITCH_MARK: u64 = 6;
 
 /// What begins behind an open mark.
-fn behind_mark(number: u64) -> At {
+fn behind_mark(number: u64) -> Context {
     match construct(number) {
-        What::Plain | What::Block | What::IfStatement => At::Statement,
-        What::Actual => At::Actual,
-        _ => At::Operand,
+        EntryKind::Plain | EntryKind::Block | EntryKind::IfStatement => Context::Statement,
+        EntryKind::Actual => Context::Actual,
+        _ => Context::Operand,
     }
 }
 
-fn behind_keyword(tag: Tag, top: Open) -> At {
+fn behind_keyword(tag: Tag, top: StackEntry) -> Context {
     match tag {
-        Tag::Begin | Tag::Semicolon | Tag::Do | Tag::LabelColon => At::Statement,
-        Tag::For => At::Variable,
-        Tag::Then | Tag::Else if top.what != What::Conditional => At::Statement,
-        Tag::Becomes if top.what == What::LeftPart => At::LeftPart,
-        _ => At::Operand,
+        Tag::Begin | Tag::Semicolon | Tag::Do | Tag::LabelColon => Context::Statement,
+        Tag::For => Context::Variable,
+        Tag::Then | Tag::Else if top.what != EntryKind::Conditional => Context::Statement,
+        Tag::Becomes if top.what == EntryKind::LeftPart => Context::LeftPart,
+        _ => Context::Operand,
     }
 }
 
 /// What begins behind a symbol, upon this entry of the stack. Entries and descriptions change nothing.
-pub(crate) fn behind(at: At, tag: Tag, value: u64, top: Open) -> At {
+pub(crate) fn behind(at: Context, tag: Tag, value: u64, top: StackEntry) -> Context {
     match tag {
         Tag::Entry | Tag::Description | Tag::Count | Tag::Used | Tag::Place => at,
         Tag::OpenMark => behind_mark(value),

@@ -1,12 +1,12 @@
 // The state of the pass, and the few things that it does to its tables: write, add a fault, open and close.
 ghost use Rattle.std.specs.Prelude.{◌≡◌, ◌≤◌, ◌+◌, ◌*◌, IsTrue};
 ghost use Rattle.gier_symbol.specs.Symbols.{IsSymbol};
-ghost use Rattle.gier_text.specs.Growth.{is_numbered, is_name};
-ghost use Rattle.gier_text.specs.Kept.{kept};
-ghost use Rattle.gier_pass6.specs.Ready.{IsWritable};
+ghost use Rattle.gier_text.specs.Potential.{is_numbered, is_name};
+ghost use Rattle.gier_text.specs.TablesModel.{tables_model};
+ghost use Rattle.gier_pass6.specs.StateInvariants.{IsWritable};
 
-use crate::open::{LAST_WORD, Spot};
-use crate::places::{At, Held};
+use crate::open::{LAST_WORD, Location};
+use crate::places::{Context, PendingName};
 use crate::types::ValueType;
 use gier_symbol::{Symbol, Tag, stands_in};
 use gier_text::{Fault, FaultKind, Tables, put};
@@ -19,18 +19,18 @@ const LAST_LINE: u32 = (1 << 24) - 1;
 
 /// What the pass keeps beside the weight of what it has taken.
 #[derive(Debug, Drop)]
-pub(crate) struct Work {
+pub(crate) struct State {
     // How many bytes the program has.
     pub(crate) bytes: u32,
     // How much of the weight that was taken may still be written.
-    pub(crate) credit: u32,
+    pub(crate) potential_left: u32,
     // How many symbols were taken, and the line of the last one.
     pub(crate) read: u32,
     pub(crate) line: u32,
     // The type of the operand that ended last.
     pub(crate) value: ValueType,
-    pub(crate) held: Held,
-    pub(crate) at: At,
+    pub(crate) held: PendingName,
+    pub(crate) at: Context,
     // The identifier of an entry that has no description yet.
     pub(crate) entry: Option<u64>,
     // How many formals the procedure's head has so far.
@@ -82,29 +82,29 @@ fn is_writable(bytes: u32, s: Symbol) -> bool
     stands_in(6, s.tag) && is_numbered(bytes, s)
 }
 
-impl Work {
-    ghost use Rattle.gier_pass6.specs.Ready.{Ready, Going};
+impl State {
+    ghost use Rattle.gier_pass6.specs.StateInvariants.{StateInvariant, PreservesState};
 
     // The place of a symbol that is being taken.
-    pub(crate) fn here(&self, s: Symbol) -> Spot {
-        Spot {
+    pub(crate) fn here(&self, s: Symbol) -> Location {
+        Location {
             position: self.read,
             line: s.line,
         }
     }
 
     // The place of the symbol before it.
-    pub(crate) fn before(&self) -> Spot {
-        Spot {
+    pub(crate) fn before(&self) -> Location {
+        Location {
             position: self.read.saturating_sub(1),
             line: self.line,
         }
     }
 
     // Adds a fault. A program has no more faults than bytes and an end.
-    pub(crate) fn raise(&self, tables: &mut Tables, kind: FaultKind, spot: Spot)
-        requires ready { Ready self.now (kept tables.old) }
-        ensures { Going self.now (kept tables.old) self.now (kept tables.new) }
+    pub(crate) fn raise(&self, tables: &mut Tables, kind: FaultKind, spot: Location)
+        requires ready { StateInvariant self.now (tables_model tables.old) }
+        ensures { PreservesState self.now (tables_model tables.old) self.now (tables_model tables.new) }
     {
         if tables.faults() <= self.bytes {
             tables.add_fault(Fault {
@@ -117,20 +117,20 @@ impl Work {
 
     // Writes a symbol.
     pub(crate) fn write(&mut self, tables: &mut Tables, s: Symbol)
-        requires ready { Ready self.old (kept tables.old) }
+        requires ready { StateInvariant self.old (tables_model tables.old) }
         requires symbol { IsSymbol s }
-        ensures { Going self.old (kept tables.old) self.new (kept tables.new) }
+        ensures { PreservesState self.old (tables_model tables.old) self.new (tables_model tables.new) }
     {
-        if self.credit > 0 && is_writable(self.bytes, s) {
-            self.credit -= 1;
+        if self.potential_left > 0 && is_writable(self.bytes, s) {
+            self.potential_left -= 1;
             put(tables, OUTBOX, s);
         }
     }
 
     // Writes a symbol that stands behind operands.
     pub(crate) fn give(&mut self, tables: &mut Tables, tag: Tag, value: u64, line: u32)
-        requires ready { Ready self.old (kept tables.old) }
-        ensures { Going self.old (kept tables.old) self.new (kept tables.new) }
+        requires ready { StateInvariant self.old (tables_model tables.old) }
+        ensures { PreservesState self.old (tables_model tables.old) self.new (tables_model tables.new) }
     {
         self.write(
             tables,

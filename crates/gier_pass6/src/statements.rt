@@ -1,24 +1,24 @@
 // Assignments, and the words of statements and for elements.
 ghost use Rattle.gier_symbol.specs.Symbols.{IsSymbol};
-ghost use Rattle.gier_text.specs.Kept.{kept};
+ghost use Rattle.gier_text.specs.TablesModel.{tables_model};
 
-use crate::open::{Open, STACK, Spot, What};
-use crate::state::Work;
+use crate::open::{StackEntry, STACK, Location, EntryKind};
+use crate::state::State;
 use crate::types::ValueType;
 use gier_symbol::{Symbol, Tag};
 use gier_text::{FaultKind, Tables};
 
-impl Work {
-    ghost use Rattle.gier_pass6.specs.Ready.{Ready, Going};
+impl State {
+    ghost use Rattle.gier_pass6.specs.StateInvariants.{StateInvariant, PreservesState};
 
     // Ends the right side of an assignment, where there is one.
     pub(crate) fn assignment_ends(&self, tables: &mut Tables)
-        requires ready { Ready self.now (kept tables.old) }
-        ensures { Going self.now (kept tables.old) self.now (kept tables.new) }
+        requires ready { StateInvariant self.now (tables_model tables.old) }
+        ensures { PreservesState self.now (tables_model tables.old) self.now (tables_model tables.new) }
     {
         for _turn in 0..tables.len(STACK) {
             let top = self.open_at(tables, 0);
-            if top.what != What::LeftPart {
+            if top.what != EntryKind::LeftPart {
                 return;
             }
             let left = ValueType::of(top.data);
@@ -30,9 +30,9 @@ impl Work {
     }
 
     // Adds a fault where the value that ended isn't of the type.
-    pub(crate) fn want(&self, tables: &mut Tables, value: ValueType, kind: FaultKind, spot: Spot)
-        requires ready { Ready self.now (kept tables.old) }
-        ensures { Going self.now (kept tables.old) self.now (kept tables.new) }
+    pub(crate) fn want(&self, tables: &mut Tables, value: ValueType, kind: FaultKind, spot: Location)
+        requires ready { StateInvariant self.now (tables_model tables.old) }
+        ensures { PreservesState self.now (tables_model tables.old) self.now (tables_model tables.new) }
     {
         if !self.value.fits(value) {
             self.raise(tables, kind, spot);
@@ -41,15 +41,15 @@ impl Work {
 
     // The construct on the top has its place at this symbol.
     fn place_top(&self, tables: &mut Tables, s: Symbol)
-        requires ready { Ready self.now (kept tables.old) }
+        requires ready { StateInvariant self.now (tables_model tables.old) }
         requires symbol { IsSymbol s }
-        ensures { Going self.now (kept tables.old) self.now (kept tables.new) }
+        ensures { PreservesState self.now (tables_model tables.old) self.now (tables_model tables.new) }
     {
         let top = self.open_at(tables, 0);
         self.change(
             tables,
             0,
-            Open {
+            StackEntry {
                 spot: self.here(s),
                 ..top
             },
@@ -58,12 +58,12 @@ impl Work {
 
     // An `_if` or `_goto`.
     pub(crate) fn begin_word(&mut self, tables: &mut Tables, s: Symbol)
-        requires ready { Ready self.old (kept tables.old) }
+        requires ready { StateInvariant self.old (tables_model tables.old) }
         requires symbol { IsSymbol s }
-        ensures { Going self.old (kept tables.old) self.new (kept tables.new) }
+        ensures { PreservesState self.old (tables_model tables.old) self.new (tables_model tables.new) }
     {
         match self.open_at(tables, 0).what {
-            What::IfStatement | What::Conditional | What::Goto => self.place_top(tables, s),
+            EntryKind::IfStatement | EntryKind::Conditional | EntryKind::Goto => self.place_top(tables, s),
             _ => {}
         }
         self.write(tables, s);
@@ -71,14 +71,14 @@ impl Work {
 
     // A `_then`.
     pub(crate) fn then(&mut self, tables: &mut Tables, s: Symbol)
-        requires ready { Ready self.old (kept tables.old) }
+        requires ready { StateInvariant self.old (tables_model tables.old) }
         requires symbol { IsSymbol s }
-        ensures { Going self.old (kept tables.old) self.new (kept tables.new) }
+        ensures { PreservesState self.old (tables_model tables.old) self.new (tables_model tables.new) }
     {
         self.finish(tables, 0);
         let top = self.open_at(tables, 0);
         match top.what {
-            What::IfStatement | What::Conditional => self.want(
+            EntryKind::IfStatement | EntryKind::Conditional => self.want(
                 tables,
                 ValueType::Boolean,
                 FaultKind::Condition,
@@ -91,18 +91,18 @@ impl Work {
 
     // An `_else`.
     pub(crate) fn otherwise(&mut self, tables: &mut Tables, s: Symbol)
-        requires ready { Ready self.old (kept tables.old) }
+        requires ready { StateInvariant self.old (tables_model tables.old) }
         requires symbol { IsSymbol s }
-        ensures { Going self.old (kept tables.old) self.new (kept tables.new) }
+        ensures { PreservesState self.old (tables_model tables.old) self.new (tables_model tables.new) }
     {
         self.finish(tables, 0);
         self.assignment_ends(tables);
         let top = self.open_at(tables, 0);
-        if top.what == What::Conditional {
+        if top.what == EntryKind::Conditional {
             self.change(
                 tables,
                 0,
-                Open {
+                StackEntry {
                     data: self.value.number(),
                     spot: self.here(s),
                     ..top
@@ -114,23 +114,23 @@ impl Work {
 
     // A `_step`, `_until` or `_while`.
     pub(crate) fn element_word(&mut self, tables: &mut Tables, tag: Tag, s: Symbol)
-        requires ready { Ready self.old (kept tables.old) }
+        requires ready { StateInvariant self.old (tables_model tables.old) }
         requires symbol { IsSymbol s }
-        ensures { Going self.old (kept tables.old) self.new (kept tables.new) }
+        ensures { PreservesState self.old (tables_model tables.old) self.new (tables_model tables.new) }
     {
         self.finish(tables, 0);
         let top = self.open_at(tables, 0);
-        if top.what == What::ForElement {
+        if top.what == EntryKind::ForElement {
             self.want(tables, ValueType::Integer, FaultKind::ForElement, top.spot);
             let what = if tag == Tag::While {
-                What::WhileElement
+                EntryKind::WhileElement
             } else {
-                What::ForElement
+                EntryKind::ForElement
             };
             self.change(
                 tables,
                 0,
-                Open {
+                StackEntry {
                     what,
                     spot: self.here(s),
                     ..top
@@ -142,9 +142,9 @@ impl Work {
 
     // A `;`, `_end`, `_do` or the end of the text.
     pub(crate) fn end_word(&mut self, tables: &mut Tables, s: Symbol)
-        requires ready { Ready self.old (kept tables.old) }
+        requires ready { StateInvariant self.old (tables_model tables.old) }
         requires symbol { IsSymbol s }
-        ensures { Going self.old (kept tables.old) self.new (kept tables.new) }
+        ensures { PreservesState self.old (tables_model tables.old) self.new (tables_model tables.new) }
     {
         self.finish(tables, 0);
         self.assignment_ends(tables);

@@ -1,22 +1,22 @@
 // How the pass takes each symbol.
 ghost use Rattle.gier_symbol.specs.Symbols.{IsSymbol};
-ghost use Rattle.gier_text.specs.Kept.{kept};
+ghost use Rattle.gier_text.specs.TablesModel.{tables_model};
 
 use crate::kind::{Kind, is_value};
 use crate::lists::MOST_ACTUALS;
 use crate::places::behind;
-use crate::state::Work;
+use crate::state::State;
 use crate::types::ValueType;
 use gier_symbol::{Symbol, Tag};
 use gier_text::{FaultKind, Tables};
 
-impl Work {
-    ghost use Rattle.gier_pass6.specs.Ready.{Ready, Going};
+impl State {
+    ghost use Rattle.gier_pass6.specs.StateInvariants.{StateInvariant, PreservesState};
 
     fn take_one(&mut self, tables: &mut Tables, tag: Tag, s: Symbol)
-        requires ready { Ready self.old (kept tables.old) }
+        requires ready { StateInvariant self.old (tables_model tables.old) }
         requires symbol { IsSymbol s }
-        ensures { Going self.old (kept tables.old) self.new (kept tables.new) }
+        ensures { PreservesState self.old (tables_model tables.old) self.new (tables_model tables.new) }
     {
         match tag {
             Tag::Place => {
@@ -40,9 +40,9 @@ impl Work {
 
     // A symbol behind which no identifier is held, unless it is one.
     fn take_other(&mut self, tables: &mut Tables, tag: Tag, s: Symbol)
-        requires ready { Ready self.old (kept tables.old) }
+        requires ready { StateInvariant self.old (tables_model tables.old) }
         requires symbol { IsSymbol s }
-        ensures { Going self.old (kept tables.old) self.new (kept tables.new) }
+        ensures { PreservesState self.old (tables_model tables.old) self.new (tables_model tables.new) }
     {
         match tag {
             Tag::OpenMark => self.open_mark(tables, s),
@@ -74,9 +74,9 @@ impl Work {
 
     // A symbol that is written as it is.
     fn note(&mut self, tables: &mut Tables, tag: Tag, s: Symbol)
-        requires ready { Ready self.old (kept tables.old) }
+        requires ready { StateInvariant self.old (tables_model tables.old) }
         requires symbol { IsSymbol s }
-        ensures { Going self.old (kept tables.old) self.new (kept tables.new) }
+        ensures { PreservesState self.old (tables_model tables.old) self.new (tables_model tables.new) }
     {
         match tag {
             Tag::Used => self.hold(s),
@@ -97,9 +97,9 @@ impl Work {
 
     // The description of an entry or of a formal of the procedure that was entered.
     fn describe(&mut self, tables: &mut Tables, s: Symbol)
-        requires ready { Ready self.old (kept tables.old) }
+        requires ready { StateInvariant self.old (tables_model tables.old) }
         requires symbol { IsSymbol s }
-        ensures { Going self.old (kept tables.old) self.new (kept tables.new) }
+        ensures { PreservesState self.old (tables_model tables.old) self.new (tables_model tables.new) }
     {
         match self.entry {
             Some(name) => self.enter(tables, name, Kind::of(s.value)),
@@ -110,8 +110,8 @@ impl Work {
 
     // A formal in the head of a procedure.
     fn count_formal(&mut self, tables: &mut Tables)
-        requires ready { Ready self.old (kept tables.old) }
-        ensures { Going self.old (kept tables.old) self.new (kept tables.new) }
+        requires ready { StateInvariant self.old (tables_model tables.old) }
+        ensures { PreservesState self.old (tables_model tables.old) self.new (tables_model tables.new) }
     {
         self.formals = self.formals.saturating_add(1);
         if u64::from(self.formals) == MOST_ACTUALS + 1 {
@@ -121,9 +121,9 @@ impl Work {
 
     // Takes a symbol.
     pub(crate) fn step(&mut self, tables: &mut Tables, s: Symbol)
-        requires ready { Ready self.old (kept tables.old) }
+        requires ready { StateInvariant self.old (tables_model tables.old) }
         requires symbol { IsSymbol s }
-        ensures { Going self.old (kept tables.old) self.new (kept tables.new) }
+        ensures { PreservesState self.old (tables_model tables.old) self.new (tables_model tables.new) }
     {
         if let Some(tag) = Tag::of(s.tag) {
             self.take_one(tables, tag, s);

@@ -1,7 +1,7 @@
 // The types of expressions, and a row for each operator: how strongly it binds, what it takes and what it gives.
 ghost use Rattle.std.specs.Prelude.{◌≡◌};
 ghost use Rattle.gier_pass6.specs.declared.types.ValueType.TheVariants.{Integer, Boolean};
-ghost use Rattle.gier_pass6.specs.Types.{fits, joined, agree, row, row_if, number_of};
+ghost use Rattle.gier_pass6.specs.Types.{fits, common_type, agree, row, row_if, number_of};
 
 use gier_symbol::Tag;
 
@@ -49,7 +49,7 @@ impl ValueType {
 
 /// The type of two branches together, or None where they differ.
 pub(crate) fn joined(yes: ValueType, no: ValueType) -> Option<ValueType>
-    ensures { result ≡ joined yes no }
+    ensures { result ≡ common_type yes no }
 {
     if yes == ValueType::Unknown {
         return Some(no);

@@ -1,3 +1,3 @@
-pub mod Twelve
-pub mod Sending
-pub mod Standing
+pub mod EntryWords
+pub mod SendLoop
+pub mod InvariantSteps

@@ -12,9 +12,9 @@ abbrev pub fields : ℕ → ℕ → ℕ
 fields level address = min level 255 * 2 ^ 24 + min address (2 ^ 24 - 1)
 
 -- an order with its number
-abbrev pub packed : Operation → ℕ → ℕ → ℕ
-packed operation level address = (row_of operation).number * 2 ^ 32 + fields level address
+abbrev pub order_code : Operation → ℕ → ℕ → ℕ
+order_code operation level address = (row_of operation).number * 2 ^ 32 + fields level address
 
 -- a label number, where labels from the first one on have numbers from the target on
-abbrev pub moved : ℕ → ℕ → ℕ → ℕ
-moved label first target = if nat_lt label first then label else min (label - first + target) (2 ^ 64 - 1)
+abbrev pub relocated_label : ℕ → ℕ → ℕ → ℕ
+relocated_label label first target = if nat_lt label first then label else min (label - first + target) (2 ^ 64 - 1)

@@ -1,6 +1,6 @@
 pub mod Kinds
 pub mod Operations
 pub mod Codes
-pub mod Ready
-pub mod Sent
-pub mod Standing
+pub mod StateInvariants
+pub mod SendProgress
+pub mod Invariant

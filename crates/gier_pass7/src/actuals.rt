@@ -1,6 +1,6 @@
 // The ends of actuals: an identifier alone, an array element alone, a string or an expression.
 ghost use Rattle.std.specs.Prelude.{◌≡◌, ◌<◌};
-ghost use Rattle.gier_text.specs.Kept.{kept};
+ghost use Rattle.gier_text.specs.TablesModel.{tables_model};
 
 use crate::calls::FORMAL_WORDS;
 use crate::formal_calls::KINDS_IN_WORD;
@@ -8,9 +8,9 @@ use crate::kinds::{
     actual_of_name, actual_of_value, formal_kind, is_array, is_array_formal, is_cell, is_name,
     is_procedure, is_procedure_formal, is_value, packed_number,
 };
-use crate::names::{Held, Name, address_in, level_in};
-use crate::open::{Open, What};
-use crate::state::Work;
+use crate::names::{PendingName, Name, address_in, level_in};
+use crate::open::{StackEntry, EntryKind};
+use crate::state::State;
 use gier_order::Operation;
 use gier_text::Tables;
 use gier_tree::Kind;
@@ -18,35 +18,35 @@ use gier_tree::Kind;
 // Values of a kind in a packed word are below this.
 const KINDS: u64 = 16;
 
-impl Work {
-    ghost use Rattle.gier_pass7.specs.Ready.{Ready, Going};
+impl State {
+    ghost use Rattle.gier_pass7.specs.StateInvariants.{StateInvariant, PreservesState};
 
     // An actual ends.
     pub(crate) fn actual_ends(&mut self, tables: &mut Tables)
-        requires ready { Ready self.old (kept tables.old) }
-        ensures { Going self.old (kept tables.old) self.new (kept tables.new) }
+        requires ready { StateInvariant self.old (tables_model tables.old) }
+        ensures { PreservesState self.old (tables_model tables.old) self.new (tables_model tables.new) }
     {
         let top = self.top(tables);
         let held = self.held;
-        self.held = Held::Nothing;
+        self.held = PendingName::Nothing;
         let kind = match held {
-            Held::Name(name) => {
+            PendingName::Name(name) => {
                 self.name_actual(tables, top, name);
                 actual_of_name(name.kind)
             }
-            Held::Element(line) => self.element_actual(tables, top, line),
-            Held::Nothing => self.other_actual(tables, top),
+            PendingName::Element(line) => self.element_actual(tables, top, line),
+            PendingName::Nothing => self.other_actual(tables, top),
         };
         self.pop(tables);
-        if top.what != What::Argument {
+        if top.what != EntryKind::Argument {
             self.free = self.free.saturating_add(FORMAL_WORDS);
             self.count_actual(tables, kind);
         }
     }
 
     fn count_actual(&mut self, tables: &mut Tables, kind: Option<gier_agree::Kind>)
-        requires ready { Ready self.old (kept tables.old) }
-        ensures { Going self.old (kept tables.old) self.new (kept tables.new) }
+        requires ready { StateInvariant self.old (tables_model tables.old) }
+        ensures { PreservesState self.old (tables_model tables.old) self.new (tables_model tables.new) }
     {
         let call = self.top(tables);
         if is_procedure_formal(call.kind) {
@@ -54,7 +54,7 @@ impl Work {
         }
         self.change(
             tables,
-            Open {
+            StackEntry {
                 count: call.count.saturating_add(1),
                 ..call
             },
@@ -62,11 +62,11 @@ impl Work {
     }
 
     // An identifier alone.
-    fn name_actual(&mut self, tables: &mut Tables, top: Open, name: Name)
-        requires ready { Ready self.old (kept tables.old) }
-        ensures { Going self.old (kept tables.old) self.new (kept tables.new) }
+    fn name_actual(&mut self, tables: &mut Tables, top: StackEntry, name: Name)
+        requires ready { StateInvariant self.old (tables_model tables.old) }
+        ensures { PreservesState self.old (tables_model tables.old) self.new (tables_model tables.new) }
     {
-        if top.what == What::Argument {
+        if top.what == EntryKind::Argument {
             self.alone_in_expression(tables, name);
         } else if is_value(top.kind) {
             self.alone_in_expression(tables, name);
@@ -77,9 +77,9 @@ impl Work {
     }
 
     // An identifier alone that isn't evaluated before the call.
-    fn reference(&mut self, tables: &mut Tables, top: Open, name: Name)
-        requires ready { Ready self.old (kept tables.old) }
-        ensures { Going self.old (kept tables.old) self.new (kept tables.new) }
+    fn reference(&mut self, tables: &mut Tables, top: StackEntry, name: Name)
+        requires ready { StateInvariant self.old (tables_model tables.old) }
+        ensures { PreservesState self.old (tables_model tables.old) self.new (tables_model tables.new) }
     {
         let kind = name.kind;
         if is_array(kind) || is_array_formal(kind) {
@@ -99,8 +99,8 @@ impl Work {
 
     // Both words of a formal switch or procedure.
     fn formal_pair(&mut self, tables: &mut Tables, name: Name)
-        requires ready { Ready self.old (kept tables.old) }
-        ensures { Going self.old (kept tables.old) self.new (kept tables.new) }
+        requires ready { StateInvariant self.old (tables_model tables.old) }
+        ensures { PreservesState self.old (tables_model tables.old) self.new (tables_model tables.new) }
     {
         let level = level_in(name.place);
         let second = address_in(name.place).saturating_add(1);
@@ -112,8 +112,8 @@ impl Work {
 
     // The address of a declared switch or procedure, and the base of the activation that declares it.
     fn declared_pair(&mut self, tables: &mut Tables, name: Name)
-        requires ready { Ready self.old (kept tables.old) }
-        ensures { Going self.old (kept tables.old) self.new (kept tables.new) }
+        requires ready { StateInvariant self.old (tables_model tables.old) }
+        ensures { PreservesState self.old (tables_model tables.old) self.new (tables_model tables.new) }
     {
         let number = address_in(name.place);
         if is_procedure(name.kind) && name.count > 0 {
@@ -127,8 +127,8 @@ impl Work {
 
     // The kinds of a procedure's formals before it; gives their label.
     fn described(&mut self, tables: &mut Tables, number: u64, count: u64, line: u32) -> u64
-        requires ready { Ready self.old (kept tables.old) }
-        ensures { Going self.old (kept tables.old) self.new (kept tables.new) }
+        requires ready { StateInvariant self.old (tables_model tables.old) }
+        ensures { PreservesState self.old (tables_model tables.old) self.new (tables_model tables.new) }
     {
         let behind = self.new_label();
         let label = self.new_label();
@@ -146,7 +146,7 @@ impl Work {
 
     // The kinds of ten formals from this one on, in a word.
     fn packed_formals(&self, tables: &Tables, number: u64, first: u64, count: u64) -> u64
-        requires ready { Ready self.now (kept tables.now) }
+        requires ready { StateInvariant self.now (tables_model tables.now) }
     {
         let mut word = 0u64;
         for place in 0..KINDS_IN_WORD {
@@ -165,13 +165,13 @@ impl Work {
     fn element_actual(
         &mut self,
         tables: &mut Tables,
-        top: Open,
+        top: StackEntry,
         line: u32,
     ) -> Option<gier_agree::Kind>
-        requires ready { Ready self.old (kept tables.old) }
-        ensures { Going self.old (kept tables.old) self.new (kept tables.new) }
+        requires ready { StateInvariant self.old (tables_model tables.old) }
+        ensures { PreservesState self.old (tables_model tables.old) self.new (tables_model tables.new) }
     {
-        if top.what == What::Evaluation {
+        if top.what == EntryKind::Evaluation {
             self.variable_ends(tables, line);
             return actual_of_value(self.value);
         }
@@ -180,14 +180,14 @@ impl Work {
     }
 
     // A string, or an expression that was evaluated or coded as an evaluation.
-    fn other_actual(&mut self, tables: &mut Tables, top: Open) -> Option<gier_agree::Kind>
-        requires ready { Ready self.old (kept tables.old) }
-        ensures { Going self.old (kept tables.old) self.new (kept tables.new) }
+    fn other_actual(&mut self, tables: &mut Tables, top: StackEntry) -> Option<gier_agree::Kind>
+        requires ready { StateInvariant self.old (tables_model tables.old) }
+        ensures { PreservesState self.old (tables_model tables.old) self.new (tables_model tables.new) }
     {
         let kind = actual_of_value(self.value);
         match top.what {
-            What::Evaluation => self.expression_ends(tables, top.line),
-            What::Actual => self.keep(tables, self.free, top.line),
+            EntryKind::Evaluation => self.expression_ends(tables, top.line),
+            EntryKind::Actual => self.keep(tables, self.free, top.line),
             _ => {}
         }
         kind

@@ -1,11 +1,11 @@
 // Calls of declared, standard and formal procedures.
 ghost use Rattle.std.specs.Prelude.{◌≡◌};
-ghost use Rattle.gier_text.specs.Kept.{kept};
+ghost use Rattle.gier_text.specs.TablesModel.{tables_model};
 
 use crate::kinds::{is_procedure, is_procedure_formal, library_number, value_type};
 use crate::names::{Name, address_in};
-use crate::open::{NOTHING, Open, What};
-use crate::state::Work;
+use crate::open::{NOTHING, StackEntry, EntryKind};
+use crate::state::State;
 use gier_order::Operation;
 use gier_text::Tables;
 use gier_tree::Kind;
@@ -13,13 +13,13 @@ use gier_tree::Kind;
 /// Each formal takes so many words.
 pub(crate) const FORMAL_WORDS: u64 = 2;
 
-impl Work {
-    ghost use Rattle.gier_pass7.specs.Ready.{Ready, Going};
+impl State {
+    ghost use Rattle.gier_pass7.specs.StateInvariants.{StateInvariant, PreservesState};
 
     // A call without actuals.
     pub(crate) fn call_alone(&mut self, tables: &mut Tables, name: Name)
-        requires ready { Ready self.old (kept tables.old) }
-        ensures { Going self.old (kept tables.old) self.new (kept tables.new) }
+        requires ready { StateInvariant self.old (tables_model tables.old) }
+        ensures { PreservesState self.old (tables_model tables.old) self.new (tables_model tables.new) }
     {
         self.operand_begins(tables);
         if is_procedure_formal(name.kind) {
@@ -34,24 +34,24 @@ impl Work {
 
     // Enters a declared procedure, whose actuals stand from the first free working place on.
     fn enter(&mut self, tables: &mut Tables, place: u64, line: u32)
-        requires ready { Ready self.old (kept tables.old) }
-        ensures { Going self.old (kept tables.old) self.new (kept tables.new) }
+        requires ready { StateInvariant self.old (tables_model tables.old) }
+        ensures { PreservesState self.old (tables_model tables.old) self.new (tables_model tables.new) }
     {
         self.order(tables, Operation::Short, 0, self.free, line);
         self.on_number(tables, Operation::Call, place, line);
     }
 
     fn library(&mut self, tables: &mut Tables, kind: Kind, line: u32)
-        requires ready { Ready self.old (kept tables.old) }
-        ensures { Going self.old (kept tables.old) self.new (kept tables.new) }
+        requires ready { StateInvariant self.old (tables_model tables.old) }
+        ensures { PreservesState self.old (tables_model tables.old) self.new (tables_model tables.new) }
     {
         self.order(tables, Operation::Lib, 0, library_number(kind), line);
     }
 
     // The identifier of a procedure, behind which actuals begin.
     pub(crate) fn call_begins(&mut self, tables: &mut Tables, name: Name)
-        requires ready { Ready self.old (kept tables.old) }
-        ensures { Going self.old (kept tables.old) self.new (kept tables.new) }
+        requires ready { StateInvariant self.old (tables_model tables.old) }
+        ensures { PreservesState self.old (tables_model tables.old) self.new (tables_model tables.new) }
     {
         self.operand_begins(tables);
         let at = if is_procedure_formal(name.kind) {
@@ -61,8 +61,8 @@ impl Work {
         };
         self.push(
             tables,
-            Open {
-                what: What::Call,
+            StackEntry {
+                what: EntryKind::Call,
                 line: name.line,
                 kind: name.kind,
                 place: name.place,
@@ -74,19 +74,19 @@ impl Work {
 
     // An actual begins, whose first symbol has this line.
     pub(crate) fn actual_begins(&mut self, tables: &mut Tables, line: u32)
-        requires ready { Ready self.old (kept tables.old) }
-        ensures { Going self.old (kept tables.old) self.new (kept tables.new) }
+        requires ready { StateInvariant self.old (tables_model tables.old) }
+        ensures { PreservesState self.old (tables_model tables.old) self.new (tables_model tables.new) }
     {
         let call = self.top(tables);
         let what = if library_number(call.kind) > 0 {
-            What::Argument
+            EntryKind::Argument
         } else {
-            What::Actual
+            EntryKind::Actual
         };
         let kind = self.formal_of(tables, call);
         self.push(
             tables,
-            Open {
+            StackEntry {
                 what,
                 line,
                 kind,
@@ -96,8 +96,8 @@ impl Work {
     }
 
     // The kind of the formal for the next actual, where it is known.
-    fn formal_of(&self, tables: &Tables, call: Open) -> Kind
-        requires ready { Ready self.now (kept tables.now) }
+    fn formal_of(&self, tables: &Tables, call: StackEntry) -> Kind
+        requires ready { StateInvariant self.now (tables_model tables.now) }
     {
         if is_procedure(call.kind) {
             self.formal(tables, address_in(call.place), call.count)
@@ -108,8 +108,8 @@ impl Work {
 
     // All actuals were taken.
     pub(crate) fn call_ends(&mut self, tables: &mut Tables)
-        requires ready { Ready self.old (kept tables.old) }
-        ensures { Going self.old (kept tables.old) self.new (kept tables.new) }
+        requires ready { StateInvariant self.old (tables_model tables.old) }
+        ensures { PreservesState self.old (tables_model tables.old) self.new (tables_model tables.new) }
     {
         let call = self.top(tables);
         self.pop(tables);
@@ -125,7 +125,7 @@ impl Work {
     }
 
     // The working places of the actuals become free.
-    pub(crate) fn actuals_end(&mut self, call: Open)
+    pub(crate) fn actuals_end(&mut self, call: StackEntry)
         ensures { self.new.bytes ≡ self.old.bytes }
     {
         self.touch(self.free);

@@ -1,14 +1,14 @@
 // What is declared: entries of scopes, array segments, switches and procedures.
 ghost use Rattle.std.specs.Prelude.{◌≡◌};
-ghost use Rattle.gier_text.specs.Kept.{kept};
+ghost use Rattle.gier_text.specs.TablesModel.{tables_model};
 
 use crate::calls::FORMAL_WORDS;
 use crate::evaluations::Thunk;
-use crate::gaps::AHEAD;
+use crate::backpatch::FORWARD_LABELS;
 use crate::kinds::{is_numbered, kind_of};
 use crate::lists::{DESCRIPTIONS, NUMBERED, len, push_word, word_at};
-use crate::open::{NOTHING, Open, What};
-use crate::state::Work;
+use crate::open::{NOTHING, StackEntry, EntryKind};
+use crate::state::State;
 use gier_order::Operation;
 use gier_text::Tables;
 use gier_tree::Kind;
@@ -21,13 +21,13 @@ const DESCRIPTOR_WORDS: u64 = 2;
 
 const BOUNDS: u64 = 2;
 
-impl Work {
-    ghost use Rattle.gier_pass7.specs.Ready.{Ready, Going};
+impl State {
+    ghost use Rattle.gier_pass7.specs.StateInvariants.{StateInvariant, PreservesState};
 
     // The description of an entry, or of a formal of the procedure that was entered last.
     pub(crate) fn describe(&mut self, tables: &mut Tables, kind: u64)
-        requires ready { Ready self.old (kept tables.old) }
-        ensures { Going self.old (kept tables.old) self.new (kept tables.new) }
+        requires ready { StateInvariant self.old (tables_model tables.old) }
+        ensures { PreservesState self.old (tables_model tables.old) self.new (tables_model tables.new) }
     {
         if self.entry {
             self.entry = false;
@@ -38,8 +38,8 @@ impl Work {
     }
 
     fn enter_kind(&mut self, tables: &mut Tables, kind: Kind)
-        requires ready { Ready self.old (kept tables.old) }
-        ensures { Going self.old (kept tables.old) self.new (kept tables.new) }
+        requires ready { StateInvariant self.old (tables_model tables.old) }
+        ensures { PreservesState self.old (tables_model tables.old) self.new (tables_model tables.new) }
     {
         match kind {
             Kind::IntegerVariable | Kind::BooleanVariable => {
@@ -66,7 +66,7 @@ impl Work {
 
     // The kind of a label, switch or procedure.
     fn kind_numbered(&self, tables: &Tables, number: u64) -> Kind
-        requires ready { Ready self.now (kept tables.now) }
+        requires ready { StateInvariant self.now (tables_model tables.now) }
     {
         let place = word_at(self.bytes, tables, NUMBERED, number);
         kind_of(word_at(self.bytes, tables, DESCRIPTIONS, place))
@@ -74,7 +74,7 @@ impl Work {
 
     // The kind of a procedure's formal, from 0.
     pub(crate) fn formal(&self, tables: &Tables, number: u64, formal: u64) -> Kind
-        requires ready { Ready self.now (kept tables.now) }
+        requires ready { StateInvariant self.now (tables_model tables.now) }
     {
         let place = word_at(self.bytes, tables, NUMBERED, number);
         let at = place.saturating_add(formal).saturating_add(1);
@@ -82,13 +82,13 @@ impl Work {
     }
 
     // A scope begins: labels, switches and procedures that it declares have the next numbers.
-    pub(crate) fn scope_begins(&mut self, tables: &mut Tables, what: What)
-        requires ready { Ready self.old (kept tables.old) }
-        ensures { Going self.old (kept tables.old) self.new (kept tables.new) }
+    pub(crate) fn scope_begins(&mut self, tables: &mut Tables, what: EntryKind)
+        requires ready { StateInvariant self.old (tables_model tables.old) }
+        ensures { PreservesState self.old (tables_model tables.old) self.new (tables_model tables.new) }
     {
         self.push(
             tables,
-            Open {
+            StackEntry {
                 what,
                 number: self.number,
                 ..NOTHING
@@ -108,14 +108,14 @@ impl Work {
 
     // An identifier in a declaring place.
     pub(crate) fn declares(&mut self, tables: &mut Tables)
-        requires ready { Ready self.old (kept tables.old) }
-        ensures { Going self.old (kept tables.old) self.new (kept tables.new) }
+        requires ready { StateInvariant self.old (tables_model tables.old) }
+        ensures { PreservesState self.old (tables_model tables.old) self.new (tables_model tables.new) }
     {
         let top = self.top(tables);
         match top.what {
-            What::TypeDeclaration => self.address = self.address.saturating_add(1),
-            What::Program | What::Segment => self.count_one(tables, top),
-            What::Switch | What::Procedure => {}
+            EntryKind::TypeDeclaration => self.address = self.address.saturating_add(1),
+            EntryKind::Program | EntryKind::Segment => self.count_one(tables, top),
+            EntryKind::Switch | EntryKind::Procedure => {}
             _ => {
                 let number = self.next_number();
                 self.mark(tables, number);
@@ -124,13 +124,13 @@ impl Work {
     }
 
     // The entry at the top counts one more.
-    pub(crate) fn count_one(&mut self, tables: &mut Tables, top: Open)
-        requires ready { Ready self.old (kept tables.old) }
-        ensures { Going self.old (kept tables.old) self.new (kept tables.new) }
+    pub(crate) fn count_one(&mut self, tables: &mut Tables, top: StackEntry)
+        requires ready { StateInvariant self.old (tables_model tables.old) }
+        ensures { PreservesState self.old (tables_model tables.old) self.new (tables_model tables.new) }
     {
         self.change(
             tables,
-            Open {
+            StackEntry {
                 count: top.count.saturating_add(1),
                 ..top
             },
@@ -138,13 +138,13 @@ impl Work {
     }
 
     pub(crate) fn segment_begins(&mut self, tables: &mut Tables, line: u32)
-        requires ready { Ready self.old (kept tables.old) }
-        ensures { Going self.old (kept tables.old) self.new (kept tables.new) }
+        requires ready { StateInvariant self.old (tables_model tables.old) }
+        ensures { PreservesState self.old (tables_model tables.old) self.new (tables_model tables.new) }
     {
         self.push(
             tables,
-            Open {
-                what: What::Segment,
+            StackEntry {
+                what: EntryKind::Segment,
                 line,
                 ..NOTHING
             },
@@ -153,14 +153,14 @@ impl Work {
 
     // A bound of a segment ends.
     pub(crate) fn bound_ends(&mut self, tables: &mut Tables)
-        requires ready { Ready self.old (kept tables.old) }
-        ensures { Going self.old (kept tables.old) self.new (kept tables.new) }
+        requires ready { StateInvariant self.old (tables_model tables.old) }
+        ensures { PreservesState self.old (tables_model tables.old) self.new (tables_model tables.new) }
     {
         let top = self.top(tables);
         self.keep_next(tables, top.line);
         self.change(
             tables,
-            Open {
+            StackEntry {
                 other: top.other.saturating_add(1),
                 ..top
             },
@@ -169,8 +169,8 @@ impl Work {
 
     // All bounds were taken, and the arrays of the segment come.
     pub(crate) fn segment_ends(&mut self, tables: &mut Tables)
-        requires ready { Ready self.old (kept tables.old) }
-        ensures { Going self.old (kept tables.old) self.new (kept tables.new) }
+        requires ready { StateInvariant self.old (tables_model tables.old) }
+        ensures { PreservesState self.old (tables_model tables.old) self.new (tables_model tables.new) }
     {
         let top = self.top(tables);
         self.pop(tables);
@@ -187,8 +187,8 @@ impl Work {
     }
 
     pub(crate) fn switch_begins(&mut self, tables: &mut Tables, line: u32)
-        requires ready { Ready self.old (kept tables.old) }
-        ensures { Going self.old (kept tables.old) self.new (kept tables.new) }
+        requires ready { StateInvariant self.old (tables_model tables.old) }
+        ensures { PreservesState self.old (tables_model tables.old) self.new (tables_model tables.new) }
     {
         let number = self.next_number();
         let behind = self.new_label();
@@ -196,8 +196,8 @@ impl Work {
         self.mark(tables, number);
         self.push(
             tables,
-            Open {
-                what: What::Switch,
+            StackEntry {
+                what: EntryKind::Switch,
                 line,
                 label: behind,
                 other: self.label,
@@ -205,24 +205,24 @@ impl Work {
                 ..NOTHING
             },
         );
-        self.label = self.label.saturating_add(AHEAD);
+        self.label = self.label.saturating_add(FORWARD_LABELS);
         self.hold();
     }
 
     pub(crate) fn switch_element_begins(&mut self, tables: &mut Tables, line: u32)
-        requires ready { Ready self.old (kept tables.old) }
-        ensures { Going self.old (kept tables.old) self.new (kept tables.new) }
+        requires ready { StateInvariant self.old (tables_model tables.old) }
+        ensures { PreservesState self.old (tables_model tables.old) self.new (tables_model tables.new) }
     {
         let top = self.top(tables);
         self.mark(tables, top.other.saturating_add(top.count));
         self.count_one(tables, top);
         self.push(
             tables,
-            Open {
-                what: What::SwitchElement,
+            StackEntry {
+                what: EntryKind::SwitchElement,
                 line,
                 free: self.free,
-                high: self.high,
+                high_water: self.high_water,
                 level: self.level,
                 ..NOTHING
             },
@@ -231,8 +231,8 @@ impl Work {
     }
 
     pub(crate) fn switch_element_ends(&mut self, tables: &mut Tables)
-        requires ready { Ready self.old (kept tables.old) }
-        ensures { Going self.old (kept tables.old) self.new (kept tables.new) }
+        requires ready { StateInvariant self.old (tables_model tables.old) }
+        ensures { PreservesState self.old (tables_model tables.old) self.new (tables_model tables.new) }
     {
         let top = self.top(tables);
         self.pop(tables);
@@ -242,8 +242,8 @@ impl Work {
 
     // All elements were taken: their number and their labels stand before them.
     pub(crate) fn switch_ends(&mut self, tables: &mut Tables)
-        requires ready { Ready self.old (kept tables.old) }
-        ensures { Going self.old (kept tables.old) self.new (kept tables.new) }
+        requires ready { StateInvariant self.old (tables_model tables.old) }
+        ensures { PreservesState self.old (tables_model tables.old) self.new (tables_model tables.new) }
     {
         let top = self.top(tables);
         self.pop(tables);
@@ -251,7 +251,7 @@ impl Work {
             tables,
             top.at,
             top.count.saturating_add(1),
-            top.other.saturating_add(AHEAD),
+            top.other.saturating_add(FORWARD_LABELS),
             top.other.saturating_add(top.count),
         );
         self.word_there(tables, top.at, top.count, top.line);
@@ -265,18 +265,18 @@ impl Work {
     }
 
     pub(crate) fn procedure_begins(&mut self, tables: &mut Tables, line: u32)
-        requires ready { Ready self.old (kept tables.old) }
-        ensures { Going self.old (kept tables.old) self.new (kept tables.new) }
+        requires ready { StateInvariant self.old (tables_model tables.old) }
+        ensures { PreservesState self.old (tables_model tables.old) self.new (tables_model tables.new) }
     {
         let place = self.next_number();
         self.push(
             tables,
-            Open {
-                what: What::Procedure,
+            StackEntry {
+                what: EntryKind::Procedure,
                 line,
                 place,
                 free: self.free,
-                high: self.high,
+                high_water: self.high_water,
                 number: self.number,
                 ..NOTHING
             },
@@ -286,8 +286,8 @@ impl Work {
 
     // The head of a procedure was taken.
     pub(crate) fn body_begins(&mut self, tables: &mut Tables)
-        requires ready { Ready self.old (kept tables.old) }
-        ensures { Going self.old (kept tables.old) self.new (kept tables.new) }
+        requires ready { StateInvariant self.old (tables_model tables.old) }
+        ensures { PreservesState self.old (tables_model tables.old) self.new (tables_model tables.new) }
     {
         let top = self.top(tables);
         let function = self.is_function(tables, top.place);
@@ -302,13 +302,13 @@ impl Work {
         self.level = self.level.saturating_add(1);
         self.open_room(tables, Operation::Proc, self.level, room, top.line);
         self.word(tables, words, top.line);
-        self.change(tables, Open { label, ..top });
+        self.change(tables, StackEntry { label, ..top });
         self.free = room;
-        self.high = room;
+        self.high_water = room;
         self.push(
             tables,
-            Open {
-                what: What::Body,
+            StackEntry {
+                what: EntryKind::Body,
                 ..NOTHING
             },
         );
@@ -316,7 +316,7 @@ impl Work {
 
     // 1 where the procedure has a value, and else 0.
     fn is_function(&self, tables: &Tables, number: u64) -> u64
-        requires ready { Ready self.now (kept tables.now) }
+        requires ready { StateInvariant self.now (tables_model tables.now) }
     {
         match self.kind_numbered(tables, number) {
             Kind::IntegerProcedure | Kind::BooleanProcedure => 1,
@@ -325,8 +325,8 @@ impl Work {
     }
 
     pub(crate) fn procedure_ends(&mut self, tables: &mut Tables)
-        requires ready { Ready self.old (kept tables.old) }
-        ensures { Going self.old (kept tables.old) self.new (kept tables.new) }
+        requires ready { StateInvariant self.old (tables_model tables.old) }
+        ensures { PreservesState self.old (tables_model tables.old) self.new (tables_model tables.new) }
     {
         let top = self.top(tables);
         self.pop(tables);
@@ -335,7 +335,7 @@ impl Work {
         self.need(tables, self.free);
         self.mark(tables, top.label);
         self.free = top.free;
-        self.high = top.high;
+        self.high_water = top.high_water;
         self.number = top.number;
         self.level = self.level.saturating_sub(1);
     }

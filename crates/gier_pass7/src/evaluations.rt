@@ -1,12 +1,12 @@
 // Evaluations: expressions as actuals that are taken by name, and elements of switches.
 ghost use Rattle.std.specs.Prelude.{◌≡◌};
-ghost use Rattle.gier_text.specs.Kept.{kept};
+ghost use Rattle.gier_text.specs.TablesModel.{tables_model};
 
 use crate::kinds::{ValueType, is_cell, is_evaluated, is_name};
 use crate::names::Name;
-use crate::open::{Open, What};
+use crate::open::{StackEntry, EntryKind};
 use crate::orders::packed;
-use crate::state::Work;
+use crate::state::State;
 use gier_order::Operation;
 use gier_text::Tables;
 
@@ -35,24 +35,24 @@ fn thunk_of(value: ValueType) -> Thunk {
     }
 }
 
-impl Work {
-    ghost use Rattle.gier_pass7.specs.Ready.{Ready, Going};
+impl State {
+    ghost use Rattle.gier_pass7.specs.StateInvariants.{StateInvariant, PreservesState};
 
     // Where an actual by name isn't an identifier alone, an evaluation begins with its first operand.
     pub(crate) fn actual_opens(&mut self, tables: &mut Tables)
-        requires ready { Ready self.old (kept tables.old) }
-        ensures { Going self.old (kept tables.old) self.new (kept tables.new) }
+        requires ready { StateInvariant self.old (tables_model tables.old) }
+        ensures { PreservesState self.old (tables_model tables.old) self.new (tables_model tables.new) }
     {
         let top = self.top(tables);
-        if top.what == What::Actual && is_evaluated(top.kind) {
+        if top.what == EntryKind::Actual && is_evaluated(top.kind) {
             self.evaluation_begins(tables, top);
         }
     }
 
     // The actual at the top becomes an evaluation. What it is of is known at its end.
-    fn evaluation_begins(&mut self, tables: &mut Tables, top: Open)
-        requires ready { Ready self.old (kept tables.old) }
-        ensures { Going self.old (kept tables.old) self.new (kept tables.new) }
+    fn evaluation_begins(&mut self, tables: &mut Tables, top: StackEntry)
+        requires ready { StateInvariant self.old (tables_model tables.old) }
+        ensures { PreservesState self.old (tables_model tables.old) self.new (tables_model tables.new) }
     {
         let behind = self.new_label();
         let label = self.new_label();
@@ -61,13 +61,13 @@ impl Work {
         let at = self.place(tables);
         self.change(
             tables,
-            Open {
-                what: What::Evaluation,
+            StackEntry {
+                what: EntryKind::Evaluation,
                 label: behind,
                 other: label,
                 at,
                 free: self.free,
-                high: self.high,
+                high_water: self.high_water,
                 level: self.level,
                 ..top
             },
@@ -78,30 +78,30 @@ impl Work {
 
     // The first order of an evaluation, and its working places.
     pub(crate) fn thunk(&mut self, tables: &mut Tables, kind: Thunk, line: u32)
-        requires ready { Ready self.old (kept tables.old) }
-        ensures { Going self.old (kept tables.old) self.new (kept tables.new) }
+        requires ready { StateInvariant self.old (tables_model tables.old) }
+        ensures { PreservesState self.old (tables_model tables.old) self.new (tables_model tables.new) }
     {
         self.open_room(tables, Operation::Thunk, kind.number(), FIRST, line);
         self.free = FIRST;
-        self.high = FIRST;
+        self.high_water = FIRST;
         self.level = 0;
     }
 
     // The end of what an evaluation needs; the activation around it goes on.
-    pub(crate) fn thunk_ends(&mut self, tables: &mut Tables, open: Open)
-        requires ready { Ready self.old (kept tables.old) }
-        ensures { Going self.old (kept tables.old) self.new (kept tables.new) }
+    pub(crate) fn thunk_ends(&mut self, tables: &mut Tables, open: StackEntry)
+        requires ready { StateInvariant self.old (tables_model tables.old) }
+        ensures { PreservesState self.old (tables_model tables.old) self.new (tables_model tables.new) }
     {
         self.need(tables, FIRST);
         self.free = open.free;
-        self.high = open.high;
+        self.high_water = open.high_water;
         self.level = open.level;
     }
 
     // The evaluation at the top ends; it is an actual.
     pub(crate) fn evaluation_ends(&mut self, tables: &mut Tables, kind: Thunk)
-        requires ready { Ready self.old (kept tables.old) }
-        ensures { Going self.old (kept tables.old) self.new (kept tables.new) }
+        requires ready { StateInvariant self.old (tables_model tables.old) }
+        ensures { PreservesState self.old (tables_model tables.old) self.new (tables_model tables.new) }
     {
         let top = self.top(tables);
         let order = packed(Operation::Thunk, kind.number(), FIRST);
@@ -115,8 +115,8 @@ impl Work {
 
     // Keeps the address of an actual, and behind it the base of an activation.
     pub(crate) fn keep_pair(&mut self, tables: &mut Tables, level: u64, line: u32)
-        requires ready { Ready self.old (kept tables.old) }
-        ensures { Going self.old (kept tables.old) self.new (kept tables.new) }
+        requires ready { StateInvariant self.old (tables_model tables.old) }
+        ensures { PreservesState self.old (tables_model tables.old) self.new (tables_model tables.new) }
     {
         self.keep(tables, self.free, line);
         self.order(tables, Operation::Base, level, 0, line);
@@ -125,8 +125,8 @@ impl Work {
 
     // The evaluation at the top was of a whole expression.
     pub(crate) fn expression_ends(&mut self, tables: &mut Tables, line: u32)
-        requires ready { Ready self.old (kept tables.old) }
-        ensures { Going self.old (kept tables.old) self.new (kept tables.new) }
+        requires ready { StateInvariant self.old (tables_model tables.old) }
+        ensures { PreservesState self.old (tables_model tables.old) self.new (tables_model tables.new) }
     {
         self.plain(tables, Operation::Back, line);
         self.evaluation_ends(tables, thunk_of(self.value));
@@ -134,17 +134,17 @@ impl Work {
 
     // The evaluation at the top was of a variable, whose address was found.
     pub(crate) fn variable_ends(&mut self, tables: &mut Tables, line: u32)
-        requires ready { Ready self.old (kept tables.old) }
-        ensures { Going self.old (kept tables.old) self.new (kept tables.new) }
+        requires ready { StateInvariant self.old (tables_model tables.old) }
+        ensures { PreservesState self.old (tables_model tables.old) self.new (tables_model tables.new) }
     {
         self.plain(tables, Operation::Give, line);
         self.evaluation_ends(tables, Thunk::Variable);
     }
 
     // The actual at the top is an identifier alone, and an evaluation.
-    pub(crate) fn name_evaluated(&mut self, tables: &mut Tables, top: Open, name: Name)
-        requires ready { Ready self.old (kept tables.old) }
-        ensures { Going self.old (kept tables.old) self.new (kept tables.new) }
+    pub(crate) fn name_evaluated(&mut self, tables: &mut Tables, top: StackEntry, name: Name)
+        requires ready { StateInvariant self.old (tables_model tables.old) }
+        ensures { PreservesState self.old (tables_model tables.old) self.new (tables_model tables.new) }
     {
         if is_cell(name.kind) {
             self.evaluation_begins(tables, top);

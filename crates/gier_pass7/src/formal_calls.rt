@@ -1,13 +1,13 @@
 // Calls of formal procedures with actuals: the kinds of the actuals are compared with those of the formals where the program runs.
 ghost use Rattle.std.specs.Prelude.{◌≡◌, ◌<◌};
-ghost use Rattle.gier_text.specs.Kept.{kept};
+ghost use Rattle.gier_text.specs.TablesModel.{tables_model};
 
 use crate::calls::FORMAL_WORDS;
 use crate::kinds::packed_number;
 use crate::lists::short;
 use crate::names::Name;
-use crate::open::Open;
-use crate::state::Work;
+use crate::open::StackEntry;
+use crate::state::State;
 use gier_order::Operation;
 use gier_text::Tables;
 
@@ -42,17 +42,17 @@ fn is_evaluated_before(kind: u8) -> bool {
     kind == gier_agree::Kind::Integer.number() || kind == gier_agree::Kind::Boolean.number()
 }
 
-impl Work {
-    ghost use Rattle.gier_pass7.specs.Ready.{Ready, Going};
+impl State {
+    ghost use Rattle.gier_pass7.specs.StateInvariants.{StateInvariant, PreservesState};
 
     // The call begins; gives the place in the outbox for the number of actuals.
     pub(crate) fn formal_call_begins(&mut self, tables: &mut Tables, name: Name) -> u64
-        requires ready { Ready self.old (kept tables.old) }
-        ensures { Going self.old (kept tables.old) self.new (kept tables.new) }
+        requires ready { StateInvariant self.old (tables_model tables.old) }
+        ensures { PreservesState self.old (tables_model tables.old) self.new (tables_model tables.new) }
     {
         self.on_cell(tables, Operation::Agree, name.place, name.line);
         let at = self.place(tables);
-        self.leave_free(tables, FIRST_WORD + MOST_WORDS);
+        self.reserve(tables, FIRST_WORD + MOST_WORDS);
         self.hold();
         at
     }
@@ -61,11 +61,11 @@ impl Work {
     pub(crate) fn note_kind(
         &mut self,
         tables: &mut Tables,
-        call: Open,
+        call: StackEntry,
         kind: Option<gier_agree::Kind>,
     )
-        requires ready { Ready self.old (kept tables.old) }
-        ensures { Going self.old (kept tables.old) self.new (kept tables.new) }
+        requires ready { StateInvariant self.old (tables_model tables.old) }
+        ensures { PreservesState self.old (tables_model tables.old) self.new (tables_model tables.new) }
     {
         let index = call.count / KINDS_IN_WORD;
         let place = call.count % KINDS_IN_WORD;
@@ -81,17 +81,17 @@ impl Work {
     }
 
     // The kind of an actual of the call, from 0.
-    fn noted_kind(&self, tables: &Tables, call: Open, actual: u64) -> u8
-        requires ready { Ready self.now (kept tables.now) }
+    fn noted_kind(&self, tables: &Tables, call: StackEntry, actual: u64) -> u8
+        requires ready { StateInvariant self.now (tables_model tables.now) }
     {
         let at = call.at.saturating_add(FIRST_WORD + actual / KINDS_IN_WORD);
         kind_in(self.value_there(tables, at), actual % KINDS_IN_WORD)
     }
 
     // All actuals were taken.
-    pub(crate) fn formal_call_ends(&mut self, tables: &mut Tables, call: Open)
-        requires ready { Ready self.old (kept tables.old) }
-        ensures { Going self.old (kept tables.old) self.new (kept tables.new) }
+    pub(crate) fn formal_call_ends(&mut self, tables: &mut Tables, call: StackEntry)
+        requires ready { StateInvariant self.old (tables_model tables.old) }
+        ensures { PreservesState self.old (tables_model tables.old) self.new (tables_model tables.new) }
     {
         self.word_there(tables, call.at, call.count, call.line);
         self.actuals_end(call);
@@ -107,9 +107,9 @@ impl Work {
     }
 
     // An expression is evaluated before the call where its formal is by value.
-    fn value_actual(&mut self, tables: &mut Tables, call: Open, actual: u64)
-        requires ready { Ready self.old (kept tables.old) }
-        ensures { Going self.old (kept tables.old) self.new (kept tables.new) }
+    fn value_actual(&mut self, tables: &mut Tables, call: StackEntry, actual: u64)
+        requires ready { StateInvariant self.old (tables_model tables.old) }
+        ensures { PreservesState self.old (tables_model tables.old) self.new (tables_model tables.new) }
     {
         let place = self
             .free

@@ -1,11 +1,11 @@
 // Identifiers: their values, addresses and labels, and what the symbol behind a held one makes of it.
 ghost use Rattle.std.specs.Prelude.{◌≡◌};
-ghost use Rattle.gier_text.specs.Kept.{kept};
+ghost use Rattle.gier_text.specs.TablesModel.{tables_model};
 
 use crate::kinds::{is_array, is_name, is_procedure, value_type};
-use crate::names::{Held, Name, address_in, level_in};
-use crate::open::What;
-use crate::state::Work;
+use crate::names::{PendingName, Name, address_in, level_in};
+use crate::open::EntryKind;
+use crate::state::State;
 use gier_order::Operation;
 use gier_symbol::{Symbol, Tag};
 use gier_text::Tables;
@@ -14,8 +14,8 @@ use gier_tree::{Construct, Kind};
 // The place of a function's value in its activation.
 const FUNCTION_VALUE: u64 = 5;
 
-impl Work {
-    ghost use Rattle.gier_pass7.specs.Ready.{Ready, Going};
+impl State {
+    ghost use Rattle.gier_pass7.specs.StateInvariants.{StateInvariant, PreservesState};
 
     // An order on the cell of an identifier.
     pub(crate) fn on_cell(
@@ -25,8 +25,8 @@ impl Work {
         place: u64,
         line: u32,
     )
-        requires ready { Ready self.old (kept tables.old) }
-        ensures { Going self.old (kept tables.old) self.new (kept tables.new) }
+        requires ready { StateInvariant self.old (tables_model tables.old) }
+        ensures { PreservesState self.old (tables_model tables.old) self.new (tables_model tables.new) }
     {
         self.order(tables, operation, level_in(place), address_in(place), line);
     }
@@ -39,16 +39,16 @@ impl Work {
         place: u64,
         line: u32,
     )
-        requires ready { Ready self.old (kept tables.old) }
-        ensures { Going self.old (kept tables.old) self.new (kept tables.new) }
+        requires ready { StateInvariant self.old (tables_model tables.old) }
+        ensures { PreservesState self.old (tables_model tables.old) self.new (tables_model tables.new) }
     {
         self.label_order(tables, operation, level_in(place), address_in(place), line);
     }
 
     // The address of a variable, a formal or a function's value.
     pub(crate) fn address_of(&mut self, tables: &mut Tables, kind: Kind, place: u64, line: u32)
-        requires ready { Ready self.old (kept tables.old) }
-        ensures { Going self.old (kept tables.old) self.new (kept tables.new) }
+        requires ready { StateInvariant self.old (tables_model tables.old) }
+        ensures { PreservesState self.old (tables_model tables.old) self.new (tables_model tables.new) }
     {
         if is_name(kind) {
             self.on_cell(tables, Operation::Place, place, line);
@@ -62,8 +62,8 @@ impl Work {
 
     // The value of a variable or formal.
     pub(crate) fn value_of(&mut self, tables: &mut Tables, kind: Kind, place: u64, line: u32)
-        requires ready { Ready self.old (kept tables.old) }
-        ensures { Going self.old (kept tables.old) self.new (kept tables.new) }
+        requires ready { StateInvariant self.old (tables_model tables.old) }
+        ensures { PreservesState self.old (tables_model tables.old) self.new (tables_model tables.new) }
     {
         if is_name(kind) {
             self.on_cell(tables, Operation::Value, place, line);
@@ -74,8 +74,8 @@ impl Work {
 
     // The word that stands for a whole array.
     pub(crate) fn array_of(&mut self, tables: &mut Tables, kind: Kind, place: u64, line: u32)
-        requires ready { Ready self.old (kept tables.old) }
-        ensures { Going self.old (kept tables.old) self.new (kept tables.new) }
+        requires ready { StateInvariant self.old (tables_model tables.old) }
+        ensures { PreservesState self.old (tables_model tables.old) self.new (tables_model tables.new) }
     {
         if is_array(kind) {
             self.on_cell(tables, Operation::Addr, place, line);
@@ -86,8 +86,8 @@ impl Work {
 
     // An identifier alone as an operand, or as a designational expression.
     pub(crate) fn alone_in_expression(&mut self, tables: &mut Tables, name: Name)
-        requires ready { Ready self.old (kept tables.old) }
-        ensures { Going self.old (kept tables.old) self.new (kept tables.new) }
+        requires ready { StateInvariant self.old (tables_model tables.old) }
+        ensures { PreservesState self.old (tables_model tables.old) self.new (tables_model tables.new) }
     {
         self.operand_begins(tables);
         match name.kind {
@@ -100,21 +100,21 @@ impl Work {
 
     // What is held is an operand, unless the next symbol makes another use of it.
     pub(crate) fn settle(&mut self, tables: &mut Tables, tag: Tag, s: Symbol)
-        requires ready { Ready self.old (kept tables.old) }
-        ensures { Going self.old (kept tables.old) self.new (kept tables.new) }
+        requires ready { StateInvariant self.old (tables_model tables.old) }
+        ensures { PreservesState self.old (tables_model tables.old) self.new (tables_model tables.new) }
     {
         let held = self.held;
-        self.held = Held::Nothing;
+        self.held = PendingName::Nothing;
         match held {
-            Held::Name(name) => self.settle_name(tables, name, tag, s),
-            Held::Element(line) => self.settle_element(tables, tag, line),
-            Held::Nothing => {}
+            PendingName::Name(name) => self.settle_name(tables, name, tag, s),
+            PendingName::Element(line) => self.settle_element(tables, tag, line),
+            PendingName::Nothing => {}
         }
     }
 
     fn settle_name(&mut self, tables: &mut Tables, name: Name, tag: Tag, s: Symbol)
-        requires ready { Ready self.old (kept tables.old) }
-        ensures { Going self.old (kept tables.old) self.new (kept tables.new) }
+        requires ready { StateInvariant self.old (tables_model tables.old) }
+        ensures { PreservesState self.old (tables_model tables.old) self.new (tables_model tables.new) }
     {
         match tag {
             Tag::OpenMark if s.value == Construct::Subscript.number() => self.subscripts_begin(
@@ -130,8 +130,8 @@ impl Work {
     }
 
     fn settle_element(&mut self, tables: &mut Tables, tag: Tag, line: u32)
-        requires ready { Ready self.old (kept tables.old) }
-        ensures { Going self.old (kept tables.old) self.new (kept tables.new) }
+        requires ready { StateInvariant self.old (tables_model tables.old) }
+        ensures { PreservesState self.old (tables_model tables.old) self.new (tables_model tables.new) }
     {
         match tag {
             Tag::Becomes => self.left_part(tables, line),
@@ -141,8 +141,8 @@ impl Work {
 
     // The value of the element whose place was found.
     pub(crate) fn fetch(&mut self, tables: &mut Tables, line: u32)
-        requires ready { Ready self.old (kept tables.old) }
-        ensures { Going self.old (kept tables.old) self.new (kept tables.new) }
+        requires ready { StateInvariant self.old (tables_model tables.old) }
+        ensures { PreservesState self.old (tables_model tables.old) self.new (tables_model tables.new) }
     {
         self.plain(tables, Operation::Fetch, line);
         self.full = true;
@@ -150,11 +150,11 @@ impl Work {
 
     // An identifier before `:=` is a left part or a controlled variable.
     fn name_becomes(&mut self, tables: &mut Tables, name: Name)
-        requires ready { Ready self.old (kept tables.old) }
-        ensures { Going self.old (kept tables.old) self.new (kept tables.new) }
+        requires ready { StateInvariant self.old (tables_model tables.old) }
+        ensures { PreservesState self.old (tables_model tables.old) self.new (tables_model tables.new) }
     {
         let top = self.top(tables);
-        if top.what == What::For {
+        if top.what == EntryKind::For {
             self.variable(tables, top, name);
             return;
         }

@@ -8,7 +8,7 @@ mod declarations;
 mod elements;
 mod evaluations;
 mod formal_calls;
-mod gaps;
+mod backpatch;
 mod identifiers;
 mod kinds;
 mod lists;

@@ -1,9 +1,9 @@
 // The lists of the pass. What lies outside a list reads as 0 and is kept nowhere, so no call here has a condition on places.
 ghost use Rattle.std.specs.Prelude.{◌≡◌, ◌≤◌, ◌<◌, ◌+◌, ◌*◌, ◌^◌, ◌&&◌, nat_lt, IfSome, IsTrue};
 ghost use Rattle.gier_symbol.specs.Symbols.{IsSymbol};
-ghost use Rattle.gier_text.specs.Kept.{kept};
+ghost use Rattle.gier_text.specs.TablesModel.{tables_model};
 ghost use Rattle.gier_text.specs.Lists.{list_at};
-ghost use Rattle.gier_pass7.specs.Ready.{HasLists, Goes};
+ghost use Rattle.gier_pass7.specs.StateInvariants.{HasLists, PreservesTables};
 
 use gier_symbol::Symbol;
 use gier_text::Tables;
@@ -19,7 +19,7 @@ pub(crate) const RECORD: u8 = 1;
 pub(crate) const STACK: u8 = 2;
 
 /// The list of the places in the outbox at which left operands are kept, whose operators are still to come.
-pub(crate) const KEEPS: u8 = 3;
+pub(crate) const SPILLS: u8 = 3;
 
 /// The list with the place in `DESCRIPTIONS` of each label, switch and procedure, by its number.
 pub(crate) const NUMBERED: u8 = 4;
@@ -76,7 +76,7 @@ pub(crate) fn short(word: u64) -> u64
 
 /// How many entries the list has.
 pub(crate) fn len(bytes: u32, tables: &Tables, list: u8) -> u64
-    requires ready { HasLists bytes (kept tables.now) }
+    requires ready { HasLists bytes (tables_model tables.now) }
     requires own { list < 6 }
 {
     u64::from(tables.len(list))
@@ -84,8 +84,8 @@ pub(crate) fn len(bytes: u32, tables: &Tables, list: u8) -> u64
 
 /// Puts an entry of the outbox behind all others.
 pub(crate) fn push_outbox(bytes: u32, tables: &mut Tables, head: u64, value: u64)
-    requires ready { HasLists bytes (kept tables.old) }
-    ensures { Goes bytes (kept tables.old) bytes (kept tables.new) }
+    requires ready { HasLists bytes (tables_model tables.old) }
+    ensures { PreservesTables bytes (tables_model tables.old) bytes (tables_model tables.new) }
 {
     if tables.len(OUTBOX) < outbox_room(bytes) {
         tables.push(OUTBOX, &[short(head), short(value)]);
@@ -94,7 +94,7 @@ pub(crate) fn push_outbox(bytes: u32, tables: &mut Tables, head: u64, value: u64
 
 /// The first word of an entry of the outbox.
 pub(crate) fn head_at(bytes: u32, tables: &Tables, at: u64) -> u64
-    requires ready { HasLists bytes (kept tables.now) }
+    requires ready { HasLists bytes (tables_model tables.now) }
 {
     if at < u64::from(tables.len(OUTBOX)) {
         tables.word(OUTBOX, at as u32, HEAD)
@@ -105,7 +105,7 @@ pub(crate) fn head_at(bytes: u32, tables: &Tables, at: u64) -> u64
 
 /// The second word of an entry of the outbox.
 pub(crate) fn value_at(bytes: u32, tables: &Tables, at: u64) -> u64
-    requires ready { HasLists bytes (kept tables.now) }
+    requires ready { HasLists bytes (tables_model tables.now) }
 {
     if at < u64::from(tables.len(OUTBOX)) {
         tables.word(OUTBOX, at as u32, VALUE)
@@ -116,8 +116,8 @@ pub(crate) fn value_at(bytes: u32, tables: &Tables, at: u64) -> u64
 
 /// Changes an entry of the outbox.
 pub(crate) fn set_outbox(bytes: u32, tables: &mut Tables, at: u64, head: u64, value: u64)
-    requires ready { HasLists bytes (kept tables.old) }
-    ensures { Goes bytes (kept tables.old) bytes (kept tables.new) }
+    requires ready { HasLists bytes (tables_model tables.old) }
+    ensures { PreservesTables bytes (tables_model tables.old) bytes (tables_model tables.new) }
 {
     if at < u64::from(tables.len(OUTBOX)) {
         tables.set_word(OUTBOX, at as u32, HEAD, short(head));
@@ -127,9 +127,9 @@ pub(crate) fn set_outbox(bytes: u32, tables: &mut Tables, at: u64, head: u64, va
 
 /// Keeps a symbol of a step expression.
 pub(crate) fn record(bytes: u32, tables: &mut Tables, s: Symbol)
-    requires ready { HasLists bytes (kept tables.old) }
+    requires ready { HasLists bytes (tables_model tables.old) }
     requires symbol { IsSymbol s }
-    ensures { Goes bytes (kept tables.old) bytes (kept tables.new) }
+    ensures { PreservesTables bytes (tables_model tables.old) bytes (tables_model tables.new) }
 {
     if tables.len(RECORD) < record_room(bytes) {
         tables.push(RECORD, &s.code());
@@ -138,7 +138,7 @@ pub(crate) fn record(bytes: u32, tables: &mut Tables, s: Symbol)
 
 /// A symbol that was kept so.
 pub(crate) fn recorded(bytes: u32, tables: &Tables, at: u64) -> Option<Symbol>
-    requires ready { HasLists bytes (kept tables.now) }
+    requires ready { HasLists bytes (tables_model tables.now) }
     ensures { IfSome result IsSymbol }
 {
     if at < u64::from(tables.len(RECORD)) {
@@ -154,18 +154,18 @@ pub(crate) fn recorded(bytes: u32, tables: &Tables, at: u64) -> Option<Symbol>
 
 /// Forgets all entries of a list.
 pub(crate) fn forget(bytes: u32, tables: &mut Tables, list: u8)
-    requires ready { HasLists bytes (kept tables.old) }
+    requires ready { HasLists bytes (tables_model tables.old) }
     requires own { list < 6 }
-    ensures { Goes bytes (kept tables.old) bytes (kept tables.new) }
+    ensures { PreservesTables bytes (tables_model tables.old) bytes (tables_model tables.new) }
 {
     tables.cut(list, 0);
 }
 
 /// Takes the last entry of a list away, where there is one.
 pub(crate) fn drop_last(bytes: u32, tables: &mut Tables, list: u8)
-    requires ready { HasLists bytes (kept tables.old) }
+    requires ready { HasLists bytes (tables_model tables.old) }
     requires own { list < 6 }
-    ensures { Goes bytes (kept tables.old) bytes (kept tables.new) }
+    ensures { PreservesTables bytes (tables_model tables.old) bytes (tables_model tables.new) }
 {
     let count = tables.len(list);
     if count > 0 {
@@ -175,8 +175,8 @@ pub(crate) fn drop_last(bytes: u32, tables: &mut Tables, list: u8)
 
 /// Puts an entry upon what is open.
 pub(crate) fn push_stack(bytes: u32, tables: &mut Tables, words: [u64; 12])
-    requires ready { HasLists bytes (kept tables.old) }
-    ensures { Goes bytes (kept tables.old) bytes (kept tables.new) }
+    requires ready { HasLists bytes (tables_model tables.old) }
+    ensures { PreservesTables bytes (tables_model tables.old) bytes (tables_model tables.new) }
 {
     if tables.len(STACK) < room(bytes) {
         let [a, b, c, d, e, f, g, h, i, j, k, l] = words;
@@ -202,7 +202,7 @@ pub(crate) fn push_stack(bytes: u32, tables: &mut Tables, words: [u64; 12])
 
 /// A word of the entry that so many others stand upon.
 pub(crate) fn stack_word(bytes: u32, tables: &Tables, depth: u32, part: u8) -> u64
-    requires ready { HasLists bytes (kept tables.now) }
+    requires ready { HasLists bytes (tables_model tables.now) }
     requires part { part < 12 }
 {
     let count = tables.len(STACK);
@@ -215,9 +215,9 @@ pub(crate) fn stack_word(bytes: u32, tables: &Tables, depth: u32, part: u8) -> u
 
 /// Puts a word behind all others of a list of single words.
 pub(crate) fn push_word(bytes: u32, tables: &mut Tables, list: u8, word: u64)
-    requires ready { HasLists bytes (kept tables.old) }
+    requires ready { HasLists bytes (tables_model tables.old) }
     requires own { IsTrue (nat_lt 2 list && nat_lt list 6) }
-    ensures { Goes bytes (kept tables.old) bytes (kept tables.new) }
+    ensures { PreservesTables bytes (tables_model tables.old) bytes (tables_model tables.new) }
 {
     if tables.len(list) < room(bytes) {
         tables.push(list, &[short(word)]);
@@ -226,7 +226,7 @@ pub(crate) fn push_word(bytes: u32, tables: &mut Tables, list: u8, word: u64)
 
 /// A word of such a list.
 pub(crate) fn word_at(bytes: u32, tables: &Tables, list: u8, at: u64) -> u64
-    requires ready { HasLists bytes (kept tables.now) }
+    requires ready { HasLists bytes (tables_model tables.now) }
     requires own { IsTrue (nat_lt 2 list && nat_lt list 6) }
 {
     if at < u64::from(tables.len(list)) {

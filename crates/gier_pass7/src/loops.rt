@@ -1,11 +1,11 @@
 // For statements: the elements in order, each with jumps to the one controlled statement behind them.
 ghost use Rattle.std.specs.Prelude.{◌≡◌};
-ghost use Rattle.gier_text.specs.Kept.{kept};
+ghost use Rattle.gier_text.specs.TablesModel.{tables_model};
 
 use crate::lists::{RECORD, forget};
 use crate::names::Name;
-use crate::open::{NOTHING, Open, What, line_of};
-use crate::state::Work;
+use crate::open::{NOTHING, StackEntry, EntryKind, line_of};
+use crate::state::State;
 use gier_order::Operation;
 use gier_text::Tables;
 
@@ -17,17 +17,17 @@ const SUM: u64 = 2;
 // No label has this number; it stands for one that isn't numbered yet.
 const NO_LABEL: u64 = 0;
 
-impl Work {
-    ghost use Rattle.gier_pass7.specs.Ready.{Ready, Going};
+impl State {
+    ghost use Rattle.gier_pass7.specs.StateInvariants.{StateInvariant, PreservesState};
 
     pub(crate) fn for_begins(&mut self, tables: &mut Tables)
-        requires ready { Ready self.old (kept tables.old) }
-        ensures { Going self.old (kept tables.old) self.new (kept tables.new) }
+        requires ready { StateInvariant self.old (tables_model tables.old) }
+        ensures { PreservesState self.old (tables_model tables.old) self.new (tables_model tables.new) }
     {
         self.push(
             tables,
-            Open {
-                what: What::For,
+            StackEntry {
+                what: EntryKind::For,
                 label: NO_LABEL,
                 ..NOTHING
             },
@@ -35,13 +35,13 @@ impl Work {
     }
 
     // The controlled variable of the for statement at the top.
-    pub(crate) fn variable(&mut self, tables: &mut Tables, top: Open, name: Name)
-        requires ready { Ready self.old (kept tables.old) }
-        ensures { Going self.old (kept tables.old) self.new (kept tables.new) }
+    pub(crate) fn variable(&mut self, tables: &mut Tables, top: StackEntry, name: Name)
+        requires ready { StateInvariant self.old (tables_model tables.old) }
+        ensures { PreservesState self.old (tables_model tables.old) self.new (tables_model tables.new) }
     {
         self.change(
             tables,
-            Open {
+            StackEntry {
                 kind: name.kind,
                 place: name.place,
                 count: u64::from(name.line),
@@ -51,9 +51,9 @@ impl Work {
     }
 
     // The address of the variable, kept behind the first free working place.
-    fn set_begins(&mut self, tables: &mut Tables, statement: Open, line: u32)
-        requires ready { Ready self.old (kept tables.old) }
-        ensures { Going self.old (kept tables.old) self.new (kept tables.new) }
+    fn set_begins(&mut self, tables: &mut Tables, statement: StackEntry, line: u32)
+        requires ready { StateInvariant self.old (tables_model tables.old) }
+        ensures { PreservesState self.old (tables_model tables.old) self.new (tables_model tables.new) }
     {
         let at = self.free.saturating_add(ADDRESS);
         self.address_of(
@@ -66,9 +66,9 @@ impl Work {
     }
 
     // The variable's value, kept at a working place; those from the next one on are free.
-    fn value_kept(&mut self, tables: &mut Tables, statement: Open, at: u64, line: u32)
-        requires ready { Ready self.old (kept tables.old) }
-        ensures { Going self.old (kept tables.old) self.new (kept tables.new) }
+    fn value_kept(&mut self, tables: &mut Tables, statement: StackEntry, at: u64, line: u32)
+        requires ready { StateInvariant self.old (tables_model tables.old) }
+        ensures { PreservesState self.old (tables_model tables.old) self.new (tables_model tables.new) }
     {
         self.value_of(
             tables,
@@ -83,14 +83,14 @@ impl Work {
 
     // A for element begins, whose first symbol has this line.
     pub(crate) fn element_begins(&mut self, tables: &mut Tables, line: u32)
-        requires ready { Ready self.old (kept tables.old) }
-        ensures { Going self.old (kept tables.old) self.new (kept tables.new) }
+        requires ready { StateInvariant self.old (tables_model tables.old) }
+        ensures { PreservesState self.old (tables_model tables.old) self.new (tables_model tables.new) }
     {
         let statement = self.top(tables);
         self.push(
             tables,
-            Open {
-                what: What::Element,
+            StackEntry {
+                what: EntryKind::Element,
                 line,
                 free: self.free,
                 at: self.place(tables),
@@ -105,9 +105,9 @@ impl Work {
     }
 
     // The first expression of an element ends: the variable receives it.
-    fn first_ends(&mut self, tables: &mut Tables, element: Open)
-        requires ready { Ready self.old (kept tables.old) }
-        ensures { Going self.old (kept tables.old) self.new (kept tables.new) }
+    fn first_ends(&mut self, tables: &mut Tables, element: StackEntry)
+        requires ready { StateInvariant self.old (tables_model tables.old) }
+        ensures { PreservesState self.old (tables_model tables.old) self.new (tables_model tables.new) }
     {
         let at = element.free.saturating_add(ADDRESS);
         self.order(tables, Operation::Put, 0, at, element.line);
@@ -116,8 +116,8 @@ impl Work {
 
     // `_step`: the variable plus the second expression comes before each turn but the first.
     pub(crate) fn step_begins(&mut self, tables: &mut Tables)
-        requires ready { Ready self.old (kept tables.old) }
-        ensures { Going self.old (kept tables.old) self.new (kept tables.new) }
+        requires ready { StateInvariant self.old (tables_model tables.old) }
+        ensures { PreservesState self.old (tables_model tables.old) self.new (tables_model tables.new) }
     {
         let element = self.top(tables);
         let statement = self.below(tables);
@@ -133,8 +133,8 @@ impl Work {
         self.value_kept(tables, statement, at, line);
         self.change(
             tables,
-            Open {
-                what: What::Step,
+            StackEntry {
+                what: EntryKind::Step,
                 label: turn,
                 other: test,
                 ..element
@@ -146,8 +146,8 @@ impl Work {
 
     // `_until`: the test before each turn.
     pub(crate) fn until_begins(&mut self, tables: &mut Tables)
-        requires ready { Ready self.old (kept tables.old) }
-        ensures { Going self.old (kept tables.old) self.new (kept tables.new) }
+        requires ready { StateInvariant self.old (tables_model tables.old) }
+        ensures { PreservesState self.old (tables_model tables.old) self.new (tables_model tables.new) }
     {
         let element = self.top(tables);
         let statement = self.below(tables);
@@ -160,17 +160,17 @@ impl Work {
         self.value_kept(tables, statement, first, line);
         self.change(
             tables,
-            Open {
-                what: What::Until,
+            StackEntry {
+                what: EntryKind::Until,
                 ..element
             },
         );
     }
 
     // The third expression ends, and the second one comes again.
-    fn again_begins(&mut self, tables: &mut Tables, element: Open)
-        requires ready { Ready self.old (kept tables.old) }
-        ensures { Going self.old (kept tables.old) self.new (kept tables.new) }
+    fn again_begins(&mut self, tables: &mut Tables, element: StackEntry)
+        requires ready { StateInvariant self.old (tables_model tables.old) }
+        ensures { PreservesState self.old (tables_model tables.old) self.new (tables_model tables.new) }
     {
         let first = element.free.saturating_add(ADDRESS);
         self.order(tables, Operation::Sub, 0, first, element.line);
@@ -179,8 +179,8 @@ impl Work {
         self.full = false;
         self.change(
             tables,
-            Open {
-                what: What::Again,
+            StackEntry {
+                what: EntryKind::Again,
                 ..element
             },
         );
@@ -188,8 +188,8 @@ impl Work {
 
     // The second expression of a step element was coded again.
     pub(crate) fn again_ends(&mut self, tables: &mut Tables)
-        requires ready { Ready self.old (kept tables.old) }
-        ensures { Going self.old (kept tables.old) self.new (kept tables.new) }
+        requires ready { StateInvariant self.old (tables_model tables.old) }
+        ensures { PreservesState self.old (tables_model tables.old) self.new (tables_model tables.new) }
     {
         let element = self.top(tables);
         let first = element.free.saturating_add(ADDRESS);
@@ -199,8 +199,8 @@ impl Work {
 
     // `_while`: each turn begins with the element, whose label is only known to be one now.
     pub(crate) fn while_begins(&mut self, tables: &mut Tables)
-        requires ready { Ready self.old (kept tables.old) }
-        ensures { Going self.old (kept tables.old) self.new (kept tables.new) }
+        requires ready { StateInvariant self.old (tables_model tables.old) }
+        ensures { PreservesState self.old (tables_model tables.old) self.new (tables_model tables.new) }
     {
         let element = self.top(tables);
         let label = element.other;
@@ -211,8 +211,8 @@ impl Work {
         self.free = element.free.saturating_add(ADDRESS);
         self.change(
             tables,
-            Open {
-                what: What::While,
+            StackEntry {
+                what: EntryKind::While,
                 label,
                 ..element
             },
@@ -221,27 +221,27 @@ impl Work {
 
     // A for element ends, but for a step element, whose second expression is still to be coded again.
     pub(crate) fn element_ends(&mut self, tables: &mut Tables)
-        requires ready { Ready self.old (kept tables.old) }
-        ensures { Going self.old (kept tables.old) self.new (kept tables.new) }
+        requires ready { StateInvariant self.old (tables_model tables.old) }
+        ensures { PreservesState self.old (tables_model tables.old) self.new (tables_model tables.new) }
     {
         let element = self.top(tables);
         match element.what {
-            What::Element => {
+            EntryKind::Element => {
                 self.first_ends(tables, element);
                 let next = self.new_label();
                 self.turn(tables, element, next);
                 self.mark(tables, next);
             }
-            What::Until => self.again_begins(tables, element),
-            What::While => self.turn_if(tables, element),
+            EntryKind::Until => self.again_begins(tables, element),
+            EntryKind::While => self.turn_if(tables, element),
             _ => {}
         }
     }
 
     // A turn where R isn't false, and else the next element.
-    fn turn_if(&mut self, tables: &mut Tables, element: Open)
-        requires ready { Ready self.old (kept tables.old) }
-        ensures { Going self.old (kept tables.old) self.new (kept tables.new) }
+    fn turn_if(&mut self, tables: &mut Tables, element: StackEntry)
+        requires ready { StateInvariant self.old (tables_model tables.old) }
+        ensures { PreservesState self.old (tables_model tables.old) self.new (tables_model tables.new) }
     {
         let next = self.new_label();
         self.label_order(tables, Operation::False, 0, next, element.line);
@@ -250,9 +250,9 @@ impl Work {
     }
 
     // The element at the top ends with a turn of the controlled statement, behind which the run goes on at a label.
-    fn turn(&mut self, tables: &mut Tables, element: Open, label: u64)
-        requires ready { Ready self.old (kept tables.old) }
-        ensures { Going self.old (kept tables.old) self.new (kept tables.new) }
+    fn turn(&mut self, tables: &mut Tables, element: StackEntry, label: u64)
+        requires ready { StateInvariant self.old (tables_model tables.old) }
+        ensures { PreservesState self.old (tables_model tables.old) self.new (tables_model tables.new) }
     {
         self.pop(tables);
         self.free = element.free;
@@ -263,7 +263,7 @@ impl Work {
             let controlled = self.new_label();
             self.change(
                 tables,
-                Open {
+                StackEntry {
                     label: controlled,
                     ..statement
                 },
@@ -276,8 +276,8 @@ impl Work {
 
     // Behind all elements.
     pub(crate) fn controlled_begins(&mut self, tables: &mut Tables)
-        requires ready { Ready self.old (kept tables.old) }
-        ensures { Going self.old (kept tables.old) self.new (kept tables.new) }
+        requires ready { StateInvariant self.old (tables_model tables.old) }
+        ensures { PreservesState self.old (tables_model tables.old) self.new (tables_model tables.new) }
     {
         let statement = self.top(tables);
         let end = self.new_label();
@@ -286,17 +286,17 @@ impl Work {
         self.free = self.free.saturating_add(1);
         self.change(
             tables,
-            Open {
+            StackEntry {
                 other: end,
                 ..statement
             },
         );
-        self.scope_begins(tables, What::Controlled);
+        self.scope_begins(tables, EntryKind::Controlled);
     }
 
     pub(crate) fn for_ends(&mut self, tables: &mut Tables)
-        requires ready { Ready self.old (kept tables.old) }
-        ensures { Going self.old (kept tables.old) self.new (kept tables.new) }
+        requires ready { StateInvariant self.old (tables_model tables.old) }
+        ensures { PreservesState self.old (tables_model tables.old) self.new (tables_model tables.new) }
     {
         let statement = self.top(tables);
         self.pop(tables);

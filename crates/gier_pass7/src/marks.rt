@@ -1,19 +1,19 @@
 // How the pass takes the marks around constructs.
 ghost use Rattle.std.specs.Prelude.{◌≡◌};
-ghost use Rattle.gier_text.specs.Kept.{kept};
+ghost use Rattle.gier_text.specs.TablesModel.{tables_model};
 
-use crate::open::What;
-use crate::state::Work;
+use crate::open::EntryKind;
+use crate::state::State;
 use gier_symbol::Symbol;
 use gier_text::Tables;
 use gier_tree::Construct;
 
-impl Work {
-    ghost use Rattle.gier_pass7.specs.Ready.{Ready, Going};
+impl State {
+    ghost use Rattle.gier_pass7.specs.StateInvariants.{StateInvariant, PreservesState};
 
     pub(crate) fn open_mark(&mut self, tables: &mut Tables, s: Symbol)
-        requires ready { Ready self.old (kept tables.old) }
-        ensures { Going self.old (kept tables.old) self.new (kept tables.new) }
+        requires ready { StateInvariant self.old (tables_model tables.old) }
+        ensures { PreservesState self.old (tables_model tables.old) self.new (tables_model tables.new) }
     {
         if let Some(construct) = Construct::of(s.value) {
             self.construct_begins(tables, construct, s.line);
@@ -22,18 +22,18 @@ impl Work {
     }
 
     fn construct_begins(&mut self, tables: &mut Tables, construct: Construct, line: u32)
-        requires ready { Ready self.old (kept tables.old) }
-        ensures { Going self.old (kept tables.old) self.new (kept tables.new) }
+        requires ready { StateInvariant self.old (tables_model tables.old) }
+        ensures { PreservesState self.old (tables_model tables.old) self.new (tables_model tables.new) }
     {
         match construct {
-            Construct::Program => self.open_plain(tables, What::Program),
+            Construct::Program => self.open_plain(tables, EntryKind::Program),
             Construct::Block => {
                 self.program_begins(tables, line);
                 self.block_begins(tables, line);
             }
             Construct::Compound => {
                 self.program_begins(tables, line);
-                self.open_plain(tables, What::Compound);
+                self.open_plain(tables, EntryKind::Compound);
             }
             Construct::ForStatement => self.for_begins(tables),
             Construct::ConditionalStatement => self.conditional_begins(tables),
@@ -45,11 +45,11 @@ impl Work {
 
     // A declaration, or a part of a statement.
     fn part_begins(&mut self, tables: &mut Tables, construct: Construct, line: u32)
-        requires ready { Ready self.old (kept tables.old) }
-        ensures { Going self.old (kept tables.old) self.new (kept tables.new) }
+        requires ready { StateInvariant self.old (tables_model tables.old) }
+        ensures { PreservesState self.old (tables_model tables.old) self.new (tables_model tables.new) }
     {
         match construct {
-            Construct::TypeDeclaration => self.open_plain(tables, What::TypeDeclaration),
+            Construct::TypeDeclaration => self.open_plain(tables, EntryKind::TypeDeclaration),
             Construct::ArraySegment => self.segment_begins(tables, line),
             Construct::SwitchDeclaration => self.switch_begins(tables, line),
             Construct::ProcedureDeclaration => self.procedure_begins(tables, line),
@@ -66,8 +66,8 @@ impl Work {
     }
 
     pub(crate) fn shut_mark(&mut self, tables: &mut Tables, s: Symbol)
-        requires ready { Ready self.old (kept tables.old) }
-        ensures { Going self.old (kept tables.old) self.new (kept tables.new) }
+        requires ready { StateInvariant self.old (tables_model tables.old) }
+        ensures { PreservesState self.old (tables_model tables.old) self.new (tables_model tables.new) }
     {
         self.statement_ends(tables);
         self.full = false;
@@ -77,8 +77,8 @@ impl Work {
     }
 
     fn construct_ends(&mut self, tables: &mut Tables, construct: Construct)
-        requires ready { Ready self.old (kept tables.old) }
-        ensures { Going self.old (kept tables.old) self.new (kept tables.new) }
+        requires ready { StateInvariant self.old (tables_model tables.old) }
+        ensures { PreservesState self.old (tables_model tables.old) self.new (tables_model tables.new) }
     {
         match construct {
             Construct::Program => self.program_ends(tables),
@@ -94,8 +94,8 @@ impl Work {
     }
 
     fn part_ends(&mut self, tables: &mut Tables, construct: Construct)
-        requires ready { Ready self.old (kept tables.old) }
-        ensures { Going self.old (kept tables.old) self.new (kept tables.new) }
+        requires ready { StateInvariant self.old (tables_model tables.old) }
+        ensures { PreservesState self.old (tables_model tables.old) self.new (tables_model tables.new) }
     {
         match construct {
             Construct::ArraySegment => self.segment_ends(tables),

@@ -15,7 +15,7 @@ pub(crate) struct Name {
 
 /// What is held until the next symbol.
 #[derive(Debug, Clone, Copy, PartialEq, Eq)]
-pub(crate) enum Held {
+pub(crate) enum PendingName {
     Nothing,
     Name(Name),
     /// The place of an array element, which is a left part, a variable as an actual, or an operand; its line.
@@ -34,9 +34,9 @@ pub(crate) fn address_in(place: u64) -> u64 {
 }
 
 /// What is held when the place of an identifier was read.
-pub(crate) fn with_place(held: Held, s: Symbol) -> Held {
+pub(crate) fn with_place(held: PendingName, s: Symbol) -> PendingName {
     match held {
-        Held::Name(name) => Held::Name(Name {
+        PendingName::Name(name) => PendingName::Name(Name {
             place: s.value,
             ..name
         }),
@@ -45,9 +45,9 @@ pub(crate) fn with_place(held: Held, s: Symbol) -> Held {
 }
 
 /// What is held when a count was read.
-pub(crate) fn with_count(held: Held, s: Symbol) -> Held {
+pub(crate) fn with_count(held: PendingName, s: Symbol) -> PendingName {
     match held {
-        Held::Name(name) => Held::Name(Name {
+        PendingName::Name(name) => PendingName::Name(Name {
             count: s.value,
             ..name
         }),

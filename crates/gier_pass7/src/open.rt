@@ -1,17 +1,17 @@
 // What is open while symbols are taken: an entry for each construct that was begun and not ended.
 ghost use Rattle.std.specs.Prelude.{◌≡◌};
-ghost use Rattle.gier_text.specs.Kept.{kept};
+ghost use Rattle.gier_text.specs.TablesModel.{tables_model};
 
 use crate::kinds::kind_of;
 use crate::lists::{STACK, drop_last, push_stack, stack_word};
-use crate::state::Work;
+use crate::state::State;
 use gier_text::Tables;
 use gier_tree::Kind;
 use std::cmp;
 
 /// What an entry stands for. The number of a variant is how it is kept.
 #[derive(Debug, Clone, Copy, PartialEq, Eq)]
-pub(crate) enum What {
+pub(crate) enum EntryKind {
     Nothing = 0,
     /// The program; its count is that of the labels before its first statement.
     Program = 1,
@@ -60,48 +60,48 @@ pub(crate) enum What {
     While = 26,
 }
 
-impl What {
+impl EntryKind {
     fn number(self) -> u64 {
         self as u64
     }
 
-    fn of(number: u64) -> What {
+    fn of(number: u64) -> EntryKind {
         match number {
-            1 => What::Program,
-            2 => What::BlockHead,
-            3 => What::Block,
-            4 => What::Compound,
-            5 => What::TypeDeclaration,
-            6 => What::Segment,
-            7 => What::Switch,
-            8 => What::Procedure,
-            9 => What::Body,
-            10 => What::For,
-            11 => What::Controlled,
-            12 => What::Conditional,
-            13 => What::Assignment,
-            14 => What::Goto,
-            15 => What::Call,
-            16 => What::Actual,
-            17 => What::Argument,
-            18 => What::Evaluation,
-            19 => What::ArrayElement,
-            20 => What::SwitchDesignator,
-            21 => What::SwitchElement,
-            22 => What::Element,
-            23 => What::Step,
-            24 => What::Until,
-            25 => What::Again,
-            26 => What::While,
-            _ => What::Nothing,
+            1 => EntryKind::Program,
+            2 => EntryKind::BlockHead,
+            3 => EntryKind::Block,
+            4 => EntryKind::Compound,
+            5 => EntryKind::TypeDeclaration,
+            6 => EntryKind::Segment,
+            7 => EntryKind::Switch,
+            8 => EntryKind::Procedure,
+            9 => EntryKind::Body,
+            10 => EntryKind::For,
+            11 => EntryKind::Controlled,
+            12 => EntryKind::Conditional,
+            13 => EntryKind::Assignment,
+            14 => EntryKind::Goto,
+            15 => EntryKind::Call,
+            16 => EntryKind::Actual,
+            17 => EntryKind::Argument,
+            18 => EntryKind::Evaluation,
+            19 => EntryKind::ArrayElement,
+            20 => EntryKind::SwitchDesignator,
+            21 => EntryKind::SwitchElement,
+            22 => EntryKind::Element,
+            23 => EntryKind::Step,
+            24 => EntryKind::Until,
+            25 => EntryKind::Again,
+            26 => EntryKind::While,
+            _ => EntryKind::Nothing,
         }
     }
 }
 
-/// An entry. What isn't told for its variant of `What` is 0.
+/// An entry. What isn't told for its variant of `EntryKind` is 0.
 #[derive(Debug, Clone, Copy, PartialEq, Eq)]
-pub(crate) struct Open {
-    pub(crate) what: What,
+pub(crate) struct StackEntry {
+    pub(crate) what: EntryKind,
     /// The line of its orders.
     pub(crate) line: u32,
     /// Kind and place of its identifier.
@@ -109,7 +109,7 @@ pub(crate) struct Open {
     pub(crate) place: u64,
     /// What the state had of these where it began.
     pub(crate) free: u64,
-    pub(crate) high: u64,
+    pub(crate) high_water: u64,
     pub(crate) level: u64,
     pub(crate) number: u64,
     /// Its labels.
@@ -146,13 +146,13 @@ const AT: u8 = 10;
 const COUNT: u8 = 11;
 
 /// What stands below the whole stack.
-pub(crate) const NOTHING: Open = Open {
-    what: What::Nothing,
+pub(crate) const NOTHING: StackEntry = StackEntry {
+    what: EntryKind::Nothing,
     line: 0,
     kind: Kind::Undeclared,
     place: 0,
     free: 0,
-    high: 0,
+    high_water: 0,
     level: 0,
     number: 0,
     label: 0,
@@ -168,20 +168,20 @@ pub(crate) fn line_of(word: u64) -> u32 {
     cmp::min(word, LAST_U32) as u32
 }
 
-impl Work {
-    ghost use Rattle.gier_pass7.specs.Ready.{Ready, Going};
+impl State {
+    ghost use Rattle.gier_pass7.specs.StateInvariants.{StateInvariant, PreservesState};
 
     // The entry that so many others stand upon.
-    fn open_at(&self, tables: &Tables, depth: u32) -> Open
-        requires ready { Ready self.now (kept tables.now) }
+    fn open_at(&self, tables: &Tables, depth: u32) -> StackEntry
+        requires ready { StateInvariant self.now (tables_model tables.now) }
     {
-        Open {
-            what: What::of(stack_word(self.bytes, tables, depth, WHAT)),
+        StackEntry {
+            what: EntryKind::of(stack_word(self.bytes, tables, depth, WHAT)),
             line: line_of(stack_word(self.bytes, tables, depth, LINE)),
             kind: kind_of(stack_word(self.bytes, tables, depth, KIND)),
             place: stack_word(self.bytes, tables, depth, PLACE),
             free: stack_word(self.bytes, tables, depth, FREE),
-            high: stack_word(self.bytes, tables, depth, HIGH),
+            high_water: stack_word(self.bytes, tables, depth, HIGH),
             level: stack_word(self.bytes, tables, depth, LEVEL),
             number: stack_word(self.bytes, tables, depth, NUMBER),
             label: stack_word(self.bytes, tables, depth, LABEL),
@@ -192,23 +192,23 @@ impl Work {
     }
 
     // The innermost entry.
-    pub(crate) fn top(&self, tables: &Tables) -> Open
-        requires ready { Ready self.now (kept tables.now) }
+    pub(crate) fn top(&self, tables: &Tables) -> StackEntry
+        requires ready { StateInvariant self.now (tables_model tables.now) }
     {
         self.open_at(tables, 0)
     }
 
     // The entry below the innermost one.
-    pub(crate) fn below(&self, tables: &Tables) -> Open
-        requires ready { Ready self.now (kept tables.now) }
+    pub(crate) fn below(&self, tables: &Tables) -> StackEntry
+        requires ready { StateInvariant self.now (tables_model tables.now) }
     {
         self.open_at(tables, 1)
     }
 
     // Puts an entry upon the others.
-    pub(crate) fn push(&self, tables: &mut Tables, open: Open)
-        requires ready { Ready self.now (kept tables.old) }
-        ensures { Going self.now (kept tables.old) self.now (kept tables.new) }
+    pub(crate) fn push(&self, tables: &mut Tables, open: StackEntry)
+        requires ready { StateInvariant self.now (tables_model tables.old) }
+        ensures { PreservesState self.now (tables_model tables.old) self.now (tables_model tables.new) }
     {
         let words = [
             open.what.number(),
@@ -216,7 +216,7 @@ impl Work {
             open.kind.number(),
             open.place,
             open.free,
-            open.high,
+            open.high_water,
             open.level,
             open.number,
             open.label,
@@ -229,16 +229,16 @@ impl Work {
 
     // Takes the innermost entry away.
     pub(crate) fn pop(&self, tables: &mut Tables)
-        requires ready { Ready self.now (kept tables.old) }
-        ensures { Going self.now (kept tables.old) self.now (kept tables.new) }
+        requires ready { StateInvariant self.now (tables_model tables.old) }
+        ensures { PreservesState self.now (tables_model tables.old) self.now (tables_model tables.new) }
     {
         drop_last(self.bytes, tables, STACK);
     }
 
     // Changes the innermost entry.
-    pub(crate) fn change(&self, tables: &mut Tables, open: Open)
-        requires ready { Ready self.now (kept tables.old) }
-        ensures { Going self.now (kept tables.old) self.now (kept tables.new) }
+    pub(crate) fn change(&self, tables: &mut Tables, open: StackEntry)
+        requires ready { StateInvariant self.now (tables_model tables.old) }
+        ensures { PreservesState self.now (tables_model tables.old) self.now (tables_model tables.new) }
     {
         self.pop(tables);
         self.push(tables, open);

@@ -1,10 +1,10 @@
 // What the pass writes: orders, words and marks, with numbers for labels.
 ghost use Rattle.std.specs.Prelude.{◌≡◌, ◌<◌, ◌^◌};
-ghost use Rattle.gier_text.specs.Kept.{kept};
-ghost use Rattle.gier_pass7.specs.Codes.{head, fields, packed};
+ghost use Rattle.gier_text.specs.TablesModel.{tables_model};
+ghost use Rattle.gier_pass7.specs.Codes.{head, fields, order_code};
 
 use crate::lists::{OUTBOX, head_at, len, push_outbox, set_outbox, value_at};
-use crate::state::Work;
+use crate::state::State;
 use gier_order::Operation;
 use gier_symbol::{ORDER_BASE, Tag};
 use gier_text::Tables;
@@ -47,24 +47,24 @@ pub(crate) fn fields(level: u64, address: u64) -> u64
 
 /// An order with its number, level and address.
 pub(crate) fn packed(operation: Operation, level: u64, address: u64) -> u64
-    ensures { result ≡ packed operation level address }
+    ensures { result ≡ order_code operation level address }
 {
     u64::from(operation.number()) * ORDERS + fields(level, address)
 }
 
-impl Work {
-    ghost use Rattle.gier_pass7.specs.Ready.{Ready, Going};
+impl State {
+    ghost use Rattle.gier_pass7.specs.StateInvariants.{StateInvariant, PreservesState};
 
     // How many entries wait in the outbox.
     pub(crate) fn place(&self, tables: &Tables) -> u64
-        requires ready { Ready self.now (kept tables.now) }
+        requires ready { StateInvariant self.now (tables_model tables.now) }
     {
         len(self.bytes, tables, OUTBOX)
     }
 
     fn put(&mut self, tables: &mut Tables, tag: u16, value: u64, line: u32)
-        requires ready { Ready self.old (kept tables.old) }
-        ensures { Going self.old (kept tables.old) self.new (kept tables.new) }
+        requires ready { StateInvariant self.old (tables_model tables.old) }
+        ensures { PreservesState self.old (tables_model tables.old) self.new (tables_model tables.new) }
     {
         push_outbox(self.bytes, tables, head(tag, line), value);
         self.line = line;
@@ -72,8 +72,8 @@ impl Work {
 
     // A symbol that is a word of the object.
     fn put_one(&mut self, tables: &mut Tables, tag: u16, value: u64, line: u32)
-        requires ready { Ready self.old (kept tables.old) }
-        ensures { Going self.old (kept tables.old) self.new (kept tables.new) }
+        requires ready { StateInvariant self.old (tables_model tables.old) }
+        ensures { PreservesState self.old (tables_model tables.old) self.new (tables_model tables.new) }
     {
         self.words = self.words.saturating_add(1);
         self.put(tables, tag, value, line);
@@ -87,8 +87,8 @@ impl Work {
         address: u64,
         line: u32,
     )
-        requires ready { Ready self.old (kept tables.old) }
-        ensures { Going self.old (kept tables.old) self.new (kept tables.new) }
+        requires ready { StateInvariant self.old (tables_model tables.old) }
+        ensures { PreservesState self.old (tables_model tables.old) self.new (tables_model tables.new) }
     {
         let tag = ORDER_BASE + u16::from(operation.number());
         self.put_one(tables, tag, fields(level, address), line);
@@ -96,8 +96,8 @@ impl Work {
 
     // An order without level and address.
     pub(crate) fn plain(&mut self, tables: &mut Tables, operation: Operation, line: u32)
-        requires ready { Ready self.old (kept tables.old) }
-        ensures { Going self.old (kept tables.old) self.new (kept tables.new) }
+        requires ready { StateInvariant self.old (tables_model tables.old) }
+        ensures { PreservesState self.old (tables_model tables.old) self.new (tables_model tables.new) }
     {
         self.order(tables, operation, 0, 0, line);
     }
@@ -111,31 +111,31 @@ impl Work {
         label: u64,
         line: u32,
     )
-        requires ready { Ready self.old (kept tables.old) }
-        ensures { Going self.old (kept tables.old) self.new (kept tables.new) }
+        requires ready { StateInvariant self.old (tables_model tables.old) }
+        ensures { PreservesState self.old (tables_model tables.old) self.new (tables_model tables.new) }
     {
         let value = packed(operation, level, label);
         self.put_one(tables, Tag::LabelOrder.number(), value, line);
     }
 
     pub(crate) fn jump(&mut self, tables: &mut Tables, label: u64, line: u32)
-        requires ready { Ready self.old (kept tables.old) }
-        ensures { Going self.old (kept tables.old) self.new (kept tables.new) }
+        requires ready { StateInvariant self.old (tables_model tables.old) }
+        ensures { PreservesState self.old (tables_model tables.old) self.new (tables_model tables.new) }
     {
         self.label_order(tables, Operation::Jump, 0, label, line);
     }
 
     pub(crate) fn word(&mut self, tables: &mut Tables, word: u64, line: u32)
-        requires ready { Ready self.old (kept tables.old) }
-        ensures { Going self.old (kept tables.old) self.new (kept tables.new) }
+        requires ready { StateInvariant self.old (tables_model tables.old) }
+        ensures { PreservesState self.old (tables_model tables.old) self.new (tables_model tables.new) }
     {
         self.put_one(tables, Tag::Word.number(), word, line);
     }
 
     // The place at which a label is defined. It has the line of the symbol before it.
     pub(crate) fn mark(&mut self, tables: &mut Tables, label: u64)
-        requires ready { Ready self.old (kept tables.old) }
-        ensures { Going self.old (kept tables.old) self.new (kept tables.new) }
+        requires ready { StateInvariant self.old (tables_model tables.old) }
+        ensures { PreservesState self.old (tables_model tables.old) self.new (tables_model tables.new) }
     {
         self.put(
             tables,
@@ -154,8 +154,8 @@ impl Work {
         room: u64,
         line: u32,
     )
-        requires ready { Ready self.old (kept tables.old) }
-        ensures { Going self.old (kept tables.old) self.new (kept tables.new) }
+        requires ready { StateInvariant self.old (tables_model tables.old) }
+        ensures { PreservesState self.old (tables_model tables.old) self.new (tables_model tables.new) }
     {
         let value = packed(operation, level, room);
         self.put_one(tables, Tag::OpenRoom.number(), value, line);
@@ -163,10 +163,10 @@ impl Work {
 
     // What the current activation needs, whose working places begin here.
     pub(crate) fn need(&mut self, tables: &mut Tables, first: u64)
-        requires ready { Ready self.old (kept tables.old) }
-        ensures { Going self.old (kept tables.old) self.new (kept tables.new) }
+        requires ready { StateInvariant self.old (tables_model tables.old) }
+        ensures { PreservesState self.old (tables_model tables.old) self.new (tables_model tables.new) }
     {
-        let need = self.high.saturating_sub(first);
+        let need = self.high_water.saturating_sub(first);
         self.put(
             tables,
             Tag::Need.number(),
@@ -177,8 +177,8 @@ impl Work {
 
     // The number of words of the object.
     pub(crate) fn object_words(&mut self, tables: &mut Tables)
-        requires ready { Ready self.old (kept tables.old) }
-        ensures { Going self.old (kept tables.old) self.new (kept tables.new) }
+        requires ready { StateInvariant self.old (tables_model tables.old) }
+        ensures { PreservesState self.old (tables_model tables.old) self.new (tables_model tables.new) }
     {
         self.put(
             tables,
@@ -198,9 +198,9 @@ impl Work {
     }
 
     // Leaves entries of the outbox free.
-    pub(crate) fn leave_free(&self, tables: &mut Tables, count: u64)
-        requires ready { Ready self.now (kept tables.old) }
-        ensures { Going self.now (kept tables.old) self.now (kept tables.new) }
+    pub(crate) fn reserve(&self, tables: &mut Tables, count: u64)
+        requires ready { StateInvariant self.now (tables_model tables.old) }
+        ensures { PreservesState self.now (tables_model tables.old) self.now (tables_model tables.new) }
     {
         for _turn in 0..count {
             push_outbox(self.bytes, tables, 0, 0);
@@ -209,8 +209,8 @@ impl Work {
 
     // Writes a word of the object at a place that was left free.
     pub(crate) fn word_there(&mut self, tables: &mut Tables, at: u64, word: u64, line: u32)
-        requires ready { Ready self.old (kept tables.old) }
-        ensures { Going self.old (kept tables.old) self.new (kept tables.new) }
+        requires ready { StateInvariant self.old (tables_model tables.old) }
+        ensures { PreservesState self.old (tables_model tables.old) self.new (tables_model tables.new) }
     {
         self.words = self.words.saturating_add(1);
         set_outbox(self.bytes, tables, at, head(Tag::Word.number(), line), word);
@@ -218,8 +218,8 @@ impl Work {
 
     // The same with a word that is a label number.
     pub(crate) fn label_there(&mut self, tables: &mut Tables, at: u64, label: u64, line: u32)
-        requires ready { Ready self.old (kept tables.old) }
-        ensures { Going self.old (kept tables.old) self.new (kept tables.new) }
+        requires ready { StateInvariant self.old (tables_model tables.old) }
+        ensures { PreservesState self.old (tables_model tables.old) self.new (tables_model tables.new) }
     {
         self.words = self.words.saturating_add(1);
         let first = head(Tag::LabelWord.number(), line);
@@ -228,8 +228,8 @@ impl Work {
 
     // The same with the place of a label.
     pub(crate) fn mark_there(&self, tables: &mut Tables, at: u64, label: u64, line: u32)
-        requires ready { Ready self.now (kept tables.old) }
-        ensures { Going self.now (kept tables.old) self.now (kept tables.new) }
+        requires ready { StateInvariant self.now (tables_model tables.old) }
+        ensures { PreservesState self.now (tables_model tables.old) self.now (tables_model tables.new) }
     {
         let first = head(Tag::LabelPlace.number(), line);
         set_outbox(self.bytes, tables, at, first, cmp::min(label, LAST_ADDRESS));
@@ -237,15 +237,15 @@ impl Work {
 
     // The value of an entry of the outbox.
     pub(crate) fn value_there(&self, tables: &Tables, at: u64) -> u64
-        requires ready { Ready self.now (kept tables.now) }
+        requires ready { StateInvariant self.now (tables_model tables.now) }
     {
         value_at(self.bytes, tables, at)
     }
 
     // Gives an entry of the outbox another value.
     pub(crate) fn set_value(&self, tables: &mut Tables, at: u64, value: u64)
-        requires ready { Ready self.now (kept tables.old) }
-        ensures { Going self.now (kept tables.old) self.now (kept tables.new) }
+        requires ready { StateInvariant self.now (tables_model tables.old) }
+        ensures { PreservesState self.now (tables_model tables.old) self.now (tables_model tables.new) }
     {
         let first = head_at(self.bytes, tables, at);
         set_outbox(self.bytes, tables, at, first, value);
@@ -253,8 +253,8 @@ impl Work {
 
     // Gives an entry of the outbox another line.
     pub(crate) fn set_line(&self, tables: &mut Tables, at: u64, line: u32)
-        requires ready { Ready self.now (kept tables.old) }
-        ensures { Going self.now (kept tables.old) self.now (kept tables.new) }
+        requires ready { StateInvariant self.now (tables_model tables.old) }
+        ensures { PreservesState self.now (tables_model tables.old) self.now (tables_model tables.new) }
     {
         let first = head_at(self.bytes, tables, at) / LINES * LINES;
         let line = u64::from(cmp::min(line, LAST_LINE));
@@ -271,12 +271,12 @@ impl Work {
     pub(crate) fn hold(&mut self)
         ensures { self.new.bytes ≡ self.old.bytes }
     {
-        self.pending = self.pending.saturating_add(1);
+        self.open_patches = self.open_patches.saturating_add(1);
     }
 
     pub(crate) fn release(&mut self)
         ensures { self.new.bytes ≡ self.old.bytes }
     {
-        self.pending = self.pending.saturating_sub(1);
+        self.open_patches = self.open_patches.saturating_sub(1);
     }
 }

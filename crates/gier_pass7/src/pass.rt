@@ -1,15 +1,15 @@
 // The pass: how much it may still write, and how it is driven.
 ghost use Rattle.std.specs.Prelude.{◌≡◌, ◌≤◌, ◌+◌, ◌*◌, []};
 ghost use Rattle.gier_symbol.specs.Symbols.{IsSymbol};
-ghost use Rattle.gier_text.specs.Growth.{IsLight};
-ghost use Rattle.gier_text.specs.Kept.{kept, fresh};
-ghost use Rattle.gier_pass7.specs.Standing.{IsShort, Stands};
+ghost use Rattle.gier_text.specs.Potential.{IsWithinPotential};
+ghost use Rattle.gier_text.specs.TablesModel.{tables_model, fresh};
+ghost use Rattle.gier_pass7.specs.Invariant.{IsShort, PassInvariant};
 
 use crate::kinds::ValueType;
 use crate::lists::{STACK_WIDTH, SYMBOL_WIDTH, WORD_WIDTH, outbox_room, record_room, room};
-use crate::names::Held;
+use crate::names::PendingName;
 use crate::send::send;
-use crate::state::Work;
+use crate::state::State;
 use gier_symbol::{Alphabet, Coded};
 use gier_text::{Pass, PassStop, Tables, Text};
 
@@ -23,7 +23,7 @@ const OTHER_LABELS: u64 = 1 << 23;
 pub struct Pass7 {
     // How many symbols may still be written.
     left: u32,
-    work: Work,
+    work: State,
 }
 
 // The greatest number of symbols of text 7 of a program of so many bytes.
@@ -34,13 +34,13 @@ fn most(bytes: u32) -> u32
     24 * bytes + 64
 }
 
-fn start(bytes: u32) -> Work
+fn start(bytes: u32) -> State
     ensures { result.bytes ≡ bytes }
 {
-    Work {
+    State {
         bytes,
         free: 0,
-        high: 0,
+        high_water: 0,
         level: 0,
         label: OTHER_LABELS,
         number: 0,
@@ -48,10 +48,10 @@ fn start(bytes: u32) -> Work
         room: 0,
         words: 0,
         line: 0,
-        pending: 0,
+        open_patches: 0,
         full: false,
         value: ValueType::Unknown,
-        held: Held::Nothing,
+        held: PendingName::Nothing,
         entry: false,
         recording: false,
         text_at: 0,
@@ -64,12 +64,12 @@ fn start(bytes: u32) -> Work
 impl Pass7 {
     /// The pass over text 6 of a program of so many bytes. The tables must be cleared and hold no fault.
     pub fn open(tables: &mut Tables, bytes: u32) -> Pass7
-        requires cleared { kept tables.old ≡ fresh (kept tables.old).limit }
-        requires bytes { bytes ≤ (kept tables.old).limit }
-        ensures stands { Stands result (kept tables.new) [] [] }
+        requires cleared { tables_model tables.old ≡ fresh (tables_model tables.old).limit }
+        requires bytes { bytes ≤ (tables_model tables.old).limit }
+        ensures stands { PassInvariant result (tables_model tables.new) [] [] }
         ensures bytes { result.work.bytes ≡ bytes }
-        ensures faults { (kept tables.new).faults ≡ [] }
-        ensures limit { (kept tables.new).limit ≡ (kept tables.old).limit }
+        ensures faults { (tables_model tables.new).faults ≡ [] }
+        ensures limit { (tables_model tables.new).limit ≡ (tables_model tables.old).limit }
     {
         tables.list(SYMBOL_WIDTH, outbox_room(bytes));
         tables.list(SYMBOL_WIDTH, record_room(bytes));
@@ -95,11 +95,11 @@ impl Pass for Pass7 {
 
     ghost GROWTH = { 24 };
 
-    ghost stands = { λ pass tables read written. Stands pass (kept tables) read written };
+    ghost stands = { λ pass tables read written. PassInvariant pass (tables_model tables) read written };
 
     ghost relates = { λ pass tables read written. IsShort 7 pass.work.bytes written };
 
-    ghost expects = { λ pass list. IsLight 6 pass.work.bytes list };
+    ghost expects = { λ pass list. IsWithinPotential 6 pass.work.bytes list };
 
     ghost most = { λ pass. 24 * pass.work.bytes + 64 };
 
@@ -111,7 +111,7 @@ impl Pass for Pass7 {
         tables: &mut Tables,
     ) -> Result<(), PassStop> {
         self.work.step(tables, s.symbol());
-        if self.work.pending > 0 {
+        if self.work.open_patches > 0 {
             return Ok(());
         }
         match send(self.work.bytes, store, out, tables, self.left) {

@@ -4,13 +4,13 @@ ghost use Rattle.gier_word.specs.Cause.{HasRisen};
 ghost use Rattle.gier_symbol.specs.Symbols.{IsSymbol};
 ghost use Rattle.gier_symbol.specs.Texts.{stands_in};
 ghost use Rattle.gier_text.specs.declared.pass.PassStop.TheVariants.{Drum, Memory, Full};
-ghost use Rattle.gier_text.specs.Kept.{kept};
+ghost use Rattle.gier_text.specs.TablesModel.{tables_model};
 ghost use Rattle.gier_text.specs.Log.{Logged};
 ghost use Rattle.gier_text.specs.Outbox.{if_any};
 ghost use Rattle.gier_text.specs.Passes.{HasLess, SpoiltIf};
 ghost use Rattle.gier_text.specs.View.{WritesAll, IsFull, IsPlacedAs, KeepsTracks, KeepsOthers};
-ghost use Rattle.gier_pass7.specs.Ready.{HasLists, Goes};
-ghost use Rattle.gier_pass7.specs.Sent.{IsLetter, Sends};
+ghost use Rattle.gier_pass7.specs.StateInvariants.{HasLists, PreservesTables};
+ghost use Rattle.gier_pass7.specs.SendProgress.{IsLetter, Sends};
 
 use crate::lists::{OUTBOX, forget, head_at, len, value_at};
 use gier_symbol::{Symbol, stands_in};
@@ -45,7 +45,7 @@ fn write_any<T: Text>(
 
 // The symbol that waits at this place, where there is one and some may still be written.
 fn waiting_at(bytes: u32, tables: &Tables, at: u64, left: u32) -> Option<Symbol>
-    requires ready { HasLists bytes (kept tables.now) }
+    requires ready { HasLists bytes (tables_model tables.now) }
     ensures symbol { IfSome result IsSymbol }
     ensures letter { IfSome result IsLetter }
     ensures few { length (if_any result) ≤ left }
@@ -82,11 +82,11 @@ pub(crate) fn send<T: Text>(
     tables: &mut Tables,
     left: u32,
 ) -> Result<u32, PassStop>
-    requires ready { HasLists bytes (kept tables.old) }
+    requires ready { HasLists bytes (tables_model tables.old) }
     requires writing { (T.view out.old store.old).rewound ≡ false }
     requires placed { T.end_track out.old ≤ T.room store.old }
     ensures written { IfOk result (Sends left (T.view out.old store.old) (T.view out.new store.new)) }
-    ensures lists { Goes bytes (kept tables.old) bytes (kept tables.new) }
+    ensures lists { PreservesTables bytes (tables_model tables.old) bytes (tables_model tables.new) }
     ensures logged { Logged (T.view out.old store.old) (T.view out.new store.new) (T.journal store.old) (T.journal store.new) }
     ensures place { IsPlacedAs T.first_track T.end_track out.old out.new }
     ensures room { T.room store.new ≡ T.room store.old }

@@ -1,15 +1,15 @@
 // What the pass keeps beside its lists.
 use crate::kinds::ValueType;
-use crate::names::Held;
+use crate::names::PendingName;
 
 /// What the pass keeps beside its lists.
 #[derive(Debug, Drop)]
-pub(crate) struct Work {
+pub(crate) struct State {
     // How many bytes the program has.
     pub(crate) bytes: u32,
     // The first free working place of the current activation, and the end of those that were used.
     pub(crate) free: u64,
-    pub(crate) high: u64,
+    pub(crate) high_water: u64,
     // The level of the current activation, and 0 in an evaluation.
     pub(crate) level: u64,
     // The number of the next label that the program doesn't declare.
@@ -25,11 +25,11 @@ pub(crate) struct Work {
     // The line of the symbol that was written last.
     pub(crate) line: u32,
     // How many places of the outbox may still change.
-    pub(crate) pending: u64,
+    pub(crate) open_patches: u64,
     // Whether an operand of the innermost expression was evaluated, and the type of what was evaluated last.
     pub(crate) full: bool,
     pub(crate) value: ValueType,
-    pub(crate) held: Held,
+    pub(crate) held: PendingName,
     // Whether the next description is that of an entry, and not of a formal.
     pub(crate) entry: bool,
     // Whether symbols are those of a step expression.

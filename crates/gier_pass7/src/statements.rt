@@ -1,25 +1,25 @@
 // Assignments, go to statements, and conditionals.
 ghost use Rattle.std.specs.Prelude.{◌≡◌};
-ghost use Rattle.gier_text.specs.Kept.{kept};
+ghost use Rattle.gier_text.specs.TablesModel.{tables_model};
 
-use crate::open::{NOTHING, Open, What};
-use crate::state::Work;
+use crate::open::{NOTHING, StackEntry, EntryKind};
+use crate::state::State;
 use gier_order::Operation;
 use gier_text::Tables;
 
-impl Work {
-    ghost use Rattle.gier_pass7.specs.Ready.{Ready, Going};
+impl State {
+    ghost use Rattle.gier_pass7.specs.StateInvariants.{StateInvariant, PreservesState};
 
     // The address of a left part was found; an assignment has the line of its first one.
     pub(crate) fn left_part(&mut self, tables: &mut Tables, line: u32)
-        requires ready { Ready self.old (kept tables.old) }
-        ensures { Going self.old (kept tables.old) self.new (kept tables.new) }
+        requires ready { StateInvariant self.old (tables_model tables.old) }
+        ensures { PreservesState self.old (tables_model tables.old) self.new (tables_model tables.new) }
     {
-        if self.top(tables).what != What::Assignment {
+        if self.top(tables).what != EntryKind::Assignment {
             self.push(
                 tables,
-                Open {
-                    what: What::Assignment,
+                StackEntry {
+                    what: EntryKind::Assignment,
                     line,
                     ..NOTHING
                 },
@@ -29,7 +29,7 @@ impl Work {
         self.keep_next(tables, top.line);
         self.change(
             tables,
-            Open {
+            StackEntry {
                 count: top.count.saturating_add(1),
                 ..top
             },
@@ -38,11 +38,11 @@ impl Work {
 
     // The statement that is open ends. Where it is an assignment, all left parts receive the value.
     pub(crate) fn statement_ends(&mut self, tables: &mut Tables)
-        requires ready { Ready self.old (kept tables.old) }
-        ensures { Going self.old (kept tables.old) self.new (kept tables.new) }
+        requires ready { StateInvariant self.old (tables_model tables.old) }
+        ensures { PreservesState self.old (tables_model tables.old) self.new (tables_model tables.new) }
     {
         let top = self.top(tables);
-        if top.what != What::Assignment {
+        if top.what != EntryKind::Assignment {
             return;
         }
         self.pop(tables);
@@ -54,13 +54,13 @@ impl Work {
     }
 
     pub(crate) fn goto_begins(&mut self, tables: &mut Tables, line: u32)
-        requires ready { Ready self.old (kept tables.old) }
-        ensures { Going self.old (kept tables.old) self.new (kept tables.new) }
+        requires ready { StateInvariant self.old (tables_model tables.old) }
+        ensures { PreservesState self.old (tables_model tables.old) self.new (tables_model tables.new) }
     {
         self.push(
             tables,
-            Open {
-                what: What::Goto,
+            StackEntry {
+                what: EntryKind::Goto,
                 line,
                 ..NOTHING
             },
@@ -68,8 +68,8 @@ impl Work {
     }
 
     pub(crate) fn goto_ends(&mut self, tables: &mut Tables)
-        requires ready { Ready self.old (kept tables.old) }
-        ensures { Going self.old (kept tables.old) self.new (kept tables.new) }
+        requires ready { StateInvariant self.old (tables_model tables.old) }
+        ensures { PreservesState self.old (tables_model tables.old) self.new (tables_model tables.new) }
     {
         let line = self.top(tables).line;
         self.pop(tables);
@@ -77,13 +77,13 @@ impl Work {
     }
 
     pub(crate) fn conditional_begins(&mut self, tables: &mut Tables)
-        requires ready { Ready self.old (kept tables.old) }
-        ensures { Going self.old (kept tables.old) self.new (kept tables.new) }
+        requires ready { StateInvariant self.old (tables_model tables.old) }
+        ensures { PreservesState self.old (tables_model tables.old) self.new (tables_model tables.new) }
     {
         self.push(
             tables,
-            Open {
-                what: What::Conditional,
+            StackEntry {
+                what: EntryKind::Conditional,
                 ..NOTHING
             },
         );
@@ -91,40 +91,40 @@ impl Work {
 
     // The first symbol of a conditional or a for statement behind labels: its orders have this line.
     pub(crate) fn begins_at(&mut self, tables: &mut Tables, line: u32)
-        requires ready { Ready self.old (kept tables.old) }
-        ensures { Going self.old (kept tables.old) self.new (kept tables.new) }
+        requires ready { StateInvariant self.old (tables_model tables.old) }
+        ensures { PreservesState self.old (tables_model tables.old) self.new (tables_model tables.new) }
     {
         let top = self.top(tables);
-        self.change(tables, Open { line, ..top });
+        self.change(tables, StackEntry { line, ..top });
     }
 
     // Behind the condition.
     pub(crate) fn then(&mut self, tables: &mut Tables)
-        requires ready { Ready self.old (kept tables.old) }
-        ensures { Going self.old (kept tables.old) self.new (kept tables.new) }
+        requires ready { StateInvariant self.old (tables_model tables.old) }
+        ensures { PreservesState self.old (tables_model tables.old) self.new (tables_model tables.new) }
     {
         let top = self.top(tables);
         let label = self.new_label();
         self.label_order(tables, Operation::False, 0, label, top.line);
-        self.change(tables, Open { label, ..top });
+        self.change(tables, StackEntry { label, ..top });
     }
 
     // Behind the first branch.
     pub(crate) fn otherwise(&mut self, tables: &mut Tables)
-        requires ready { Ready self.old (kept tables.old) }
-        ensures { Going self.old (kept tables.old) self.new (kept tables.new) }
+        requires ready { StateInvariant self.old (tables_model tables.old) }
+        ensures { PreservesState self.old (tables_model tables.old) self.new (tables_model tables.new) }
     {
         let top = self.top(tables);
         let label = self.new_label();
         self.jump(tables, label, top.line);
         self.mark(tables, top.label);
-        self.change(tables, Open { label, ..top });
+        self.change(tables, StackEntry { label, ..top });
     }
 
     // Behind the last branch.
     pub(crate) fn conditional_ends(&mut self, tables: &mut Tables)
-        requires ready { Ready self.old (kept tables.old) }
-        ensures { Going self.old (kept tables.old) self.new (kept tables.new) }
+        requires ready { StateInvariant self.old (tables_model tables.old) }
+        ensures { PreservesState self.old (tables_model tables.old) self.new (tables_model tables.new) }
     {
         let label = self.top(tables).label;
         self.pop(tables);

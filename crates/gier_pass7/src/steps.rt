@@ -1,13 +1,13 @@
 // How the pass takes each symbol.
 ghost use Rattle.std.specs.Prelude.{◌≡◌};
 ghost use Rattle.gier_symbol.specs.Symbols.{IsSymbol};
-ghost use Rattle.gier_text.specs.Kept.{kept};
+ghost use Rattle.gier_text.specs.TablesModel.{tables_model};
 
 use crate::kinds::kind_of;
 use crate::lists::{RECORD, len, record, recorded};
-use crate::names::{Held, Name, with_count, with_place};
-use crate::open::What;
-use crate::state::Work;
+use crate::names::{PendingName, Name, with_count, with_place};
+use crate::open::EntryKind;
+use crate::state::State;
 use gier_symbol::{Symbol, Tag};
 use gier_text::Tables;
 use gier_tree::Construct;
@@ -19,14 +19,14 @@ const NO_SYMBOL: Symbol = Symbol {
     line: 0,
 };
 
-impl Work {
-    ghost use Rattle.gier_pass7.specs.Ready.{Ready, Going};
+impl State {
+    ghost use Rattle.gier_pass7.specs.StateInvariants.{StateInvariant, PreservesState};
 
     // Takes a symbol. A step expression is recorded, and taken again at the end of its element.
     pub(crate) fn step(&mut self, tables: &mut Tables, s: Symbol)
-        requires ready { Ready self.old (kept tables.old) }
+        requires ready { StateInvariant self.old (tables_model tables.old) }
         requires symbol { IsSymbol s }
-        ensures { Going self.old (kept tables.old) self.new (kept tables.new) }
+        ensures { PreservesState self.old (tables_model tables.old) self.new (tables_model tables.new) }
     {
         let Some(tag) = Tag::of(s.tag) else {
             return;
@@ -38,14 +38,14 @@ impl Work {
             record(self.bytes, tables, s);
         }
         self.take_one(tables, tag, s);
-        if self.top(tables).what == What::Again {
+        if self.top(tables).what == EntryKind::Again {
             self.take_again(tables);
         }
     }
 
     fn take_again(&mut self, tables: &mut Tables)
-        requires ready { Ready self.old (kept tables.old) }
-        ensures { Going self.old (kept tables.old) self.new (kept tables.new) }
+        requires ready { StateInvariant self.old (tables_model tables.old) }
+        ensures { PreservesState self.old (tables_model tables.old) self.new (tables_model tables.new) }
     {
         for at in 0..len(self.bytes, tables, RECORD) {
             if let Some(s) = recorded(self.bytes, tables, at) {
@@ -59,8 +59,8 @@ impl Work {
     }
 
     fn take_one(&mut self, tables: &mut Tables, tag: Tag, s: Symbol)
-        requires ready { Ready self.old (kept tables.old) }
-        ensures { Going self.old (kept tables.old) self.new (kept tables.new) }
+        requires ready { StateInvariant self.old (tables_model tables.old) }
+        ensures { PreservesState self.old (tables_model tables.old) self.new (tables_model tables.new) }
     {
         match tag {
             Tag::Place => self.held = with_place(self.held, s),
@@ -69,7 +69,7 @@ impl Work {
                 self.actual_ends(tables);
                 self.full = false;
             }
-            Tag::Called if self.held == Held::Nothing => self.call_ends(tables),
+            Tag::Called if self.held == PendingName::Nothing => self.call_ends(tables),
             _ => {
                 self.settle(tables, tag, s);
                 self.take_other(tables, tag, s);
@@ -82,19 +82,19 @@ impl Work {
         ensures { self.new.bytes ≡ self.old.bytes }
     {
         match self.held {
-            Held::Nothing => self.dimensions(s.value),
+            PendingName::Nothing => self.dimensions(s.value),
             held => self.held = with_count(held, s),
         }
     }
 
     // A symbol behind which no identifier is held, unless it is one.
     fn take_other(&mut self, tables: &mut Tables, tag: Tag, s: Symbol)
-        requires ready { Ready self.old (kept tables.old) }
-        ensures { Going self.old (kept tables.old) self.new (kept tables.new) }
+        requires ready { StateInvariant self.old (tables_model tables.old) }
+        ensures { PreservesState self.old (tables_model tables.old) self.new (tables_model tables.new) }
     {
         match tag {
             Tag::Used => {
-                self.held = Held::Name(Name {
+                self.held = PendingName::Name(Name {
                     kind: kind_of(s.value),
                     place: 0,
                     count: 0,
@@ -119,8 +119,8 @@ impl Work {
 
     // A symbol that isn't a part of an expression or a mark, but for `(`.
     fn take_word(&mut self, tables: &mut Tables, tag: Tag, s: Symbol)
-        requires ready { Ready self.old (kept tables.old) }
-        ensures { Going self.old (kept tables.old) self.new (kept tables.new) }
+        requires ready { StateInvariant self.old (tables_model tables.old) }
+        ensures { PreservesState self.old (tables_model tables.old) self.new (tables_model tables.new) }
     {
         if tag == Tag::LeftParenthesis {
             self.operand_begins(tables);
@@ -144,8 +144,8 @@ impl Work {
 
     // A symbol of a declaration or an entry. All others leave no trace.
     fn take_declaring(&mut self, tables: &mut Tables, tag: Tag, s: Symbol)
-        requires ready { Ready self.old (kept tables.old) }
-        ensures { Going self.old (kept tables.old) self.new (kept tables.new) }
+        requires ready { StateInvariant self.old (tables_model tables.old) }
+        ensures { PreservesState self.old (tables_model tables.old) self.new (tables_model tables.new) }
     {
         match tag {
             Tag::Declaring => self.declares(tables),

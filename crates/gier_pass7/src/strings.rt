@@ -1,9 +1,9 @@
 // Strings: a word with the number of bytes and then the bytes, five to a word, the first in the highest bits.
 ghost use Rattle.std.specs.Prelude.{◌≡◌};
-ghost use Rattle.gier_text.specs.Kept.{kept};
+ghost use Rattle.gier_text.specs.TablesModel.{tables_model};
 
 use crate::kinds::ValueType;
-use crate::state::Work;
+use crate::state::State;
 use gier_order::Operation;
 use gier_text::Tables;
 
@@ -12,13 +12,13 @@ const BYTES_IN_WORD: u64 = 5;
 // A byte is below this.
 const BYTES: u64 = 256;
 
-impl Work {
-    ghost use Rattle.gier_pass7.specs.Ready.{Ready, Going};
+impl State {
+    ghost use Rattle.gier_pass7.specs.StateInvariants.{StateInvariant, PreservesState};
 
     // A string begins. Its length is written at its end.
     pub(crate) fn string_begins(&mut self, tables: &mut Tables, line: u32)
-        requires ready { Ready self.old (kept tables.old) }
-        ensures { Going self.old (kept tables.old) self.new (kept tables.new) }
+        requires ready { StateInvariant self.old (tables_model tables.old) }
+        ensures { PreservesState self.old (tables_model tables.old) self.new (tables_model tables.new) }
     {
         self.text_label = self.new_label();
         let label = self.new_label();
@@ -32,8 +32,8 @@ impl Work {
     }
 
     pub(crate) fn string_byte(&mut self, tables: &mut Tables, byte: u64)
-        requires ready { Ready self.old (kept tables.old) }
-        ensures { Going self.old (kept tables.old) self.new (kept tables.new) }
+        requires ready { StateInvariant self.old (tables_model tables.old) }
+        ensures { PreservesState self.old (tables_model tables.old) self.new (tables_model tables.new) }
     {
         self.text_word = self
             .text_word
@@ -48,8 +48,8 @@ impl Work {
 
     // A string ends: it is filled up with zeros, and its address is found.
     pub(crate) fn string_ends(&mut self, tables: &mut Tables)
-        requires ready { Ready self.old (kept tables.old) }
-        ensures { Going self.old (kept tables.old) self.new (kept tables.new) }
+        requires ready { StateInvariant self.old (tables_model tables.old) }
+        ensures { PreservesState self.old (tables_model tables.old) self.new (tables_model tables.new) }
     {
         let line = self.line;
         let length = self.text_length;

@@ -1,5 +1,5 @@
-pub mod Standing
+pub mod InvariantSteps
 pub mod Needs
-pub mod Settled
+pub mod FromTheEndSteps
 pub mod Text8
 pub mod Complete

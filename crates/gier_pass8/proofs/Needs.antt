@@ -7,15 +7,15 @@ use Rattle.std.proofs.lemmas.Bool.Decides.{nat_tests}
 use Rattle.std.proofs.lemmas.List.{length-reverse, reverse-append}
 use Rattle.std.proofs.Math.Seq.{take-append_seam, get_or-append_seam}
 use Rattle.gier_symbol.specs.declared.symbol.Symbol.{Symbol}
-use Rattle.gier_text.specs.Kept.{Kept}
-use Rattle.gier_text.specs.Lists.{TableList, pushed, cut_to}
+use Rattle.gier_text.specs.TablesModel.{TablesModel}
+use Rattle.gier_text.specs.Lists.{TableList, with_entry, cut_to}
 use Rattle.gier_tree.specs.Object.{Piece, APlace, AUse, AWordUse, ARoom, ANeed, ACount, AWord, AnOrder, piece_of}
 use Rattle.gier_tree.specs.Object.{words_of, address_at, address_of, need_at, need_behind, known_order}
-use Rattle.gier_pass8.specs.Words.{sum_of, filled}
+use Rattle.gier_pass8.specs.Words.{sum_of, with_address}
 use Rattle.gier_pass8.specs.Steps.{last_need}
-use Rattle.gier_pass8.specs.Learned.{needs_of, with_need, without_need}
+use Rattle.gier_pass8.specs.Knowledge.{needs_of, with_need, without_need}
 use Rattle.gier_pass8.specs.Exact.{words_in, needs_at, open_needs, IsOrderNumber}
-use Rattle.gier_pass8.specs.Settled.{HasNeeds}
+use Rattle.gier_pass8.specs.FromTheEnd.{HasNeeds}
 
 -- Numbers and labels
 
@@ -54,7 +54,7 @@ bound (s ∷ behind) label before =
 
 -- an order of the text becomes one with an address
 pub filled_is : (s : Symbol) (address : ℕ) → IsOrderNumber (s.value / 16777216 / 256)
-    → filled s address ≡ known_order (s.value / 16777216) address s.line
+    → with_address s address ≡ known_order (s.value / 16777216) address s.line
 filled_is s address order =
     let is : s.value / 16777216 / 256 ≡ s.value / 4294967296 = omega arith in
     let level : s.value % 4294967296 / 16777216 ≡ s.value / 16777216 % 256 = omega arith in
@@ -67,17 +67,17 @@ filled_is s address order =
 turned : (need : ℕ) (needs : List ℕ) → reverse (need ∷ needs) ≡ reverse needs ++ need ∷ []
 turned need needs = reverse-append (need ∷ []) needs
 
-pub needs_stay : (t u : Kept) (needs : List ℕ) → needs_of u ≡ needs_of t → HasNeeds t needs → HasNeeds u needs
+pub needs_stay : (t u : TablesModel) (needs : List ℕ) → needs_of u ≡ needs_of t → HasNeeds t needs → HasNeeds u needs
 needs_stay t u needs same h = record {
   words = ap (λ (l : TableList). l.words) same ∙ h.words;
   count = ap (λ (l : TableList). l.count) same ∙ h.count;
 }
 
-pub needs_more : (room need : ℕ) (t u : Kept) (needs : List ℕ) → length needs < room → needs_of u ≡ with_need room need (needs_of t)
+pub needs_more : (room need : ℕ) (t u : TablesModel) (needs : List ℕ) → length needs < room → needs_of u ≡ with_need room need (needs_of t)
     → HasNeeds t needs → HasNeeds u (need ∷ needs)
 needs_more room need t u needs fits same h =
     let test : nat_lt (needs_of t).count room ≡ true = grind (arith, nat_tests, h.count, fits) in
-    let more : needs_of u ≡ pushed (needs_of t) (need ∷ []) = rw test at same in
+    let more : needs_of u ≡ with_entry (needs_of t) (need ∷ []) = rw test at same in
     record {
       words = ap (λ (l : TableList). l.words) more ∙ ap (λ (l : List ℕ). l ++ need ∷ []) h.words ∙ sym (turned need needs);
       count = omega (arith, ap (λ (l : TableList). l.count) more, h.count);
@@ -89,7 +89,7 @@ cut_last width needs need words count wide is all =
     let whole : width * count ≡ length (reverse needs) = rw wide (omega (arith, all, length-reverse needs)) in
     rw (whole, is) (take-append_seam (reverse needs) (need ∷ []))
 
-pub needs_less : (t u : Kept) (needs : List ℕ) → (needs_of t).width ≡ 1 → needs_of u ≡ without_need (needs_of t) → HasNeeds t needs
+pub needs_less : (t u : TablesModel) (needs : List ℕ) → (needs_of t).width ≡ 1 → needs_of u ≡ without_need (needs_of t) → HasNeeds t needs
     → HasNeeds u (drop 1 needs)
 needs_less t u [] wide same h =
     let none : (needs_of t).count ≡ 0 = h.count in
@@ -127,7 +127,7 @@ pub need_is : (behind : List Symbol) (inner : ℕ) → need_behind behind inner 
 need_is [] inner = refl
 need_is (s ∷ behind) inner = need_by (piece_of s) (need_behind behind) (open_needs behind) inner (need_is behind)
 
-pub last_by : (t : Kept) (needs : List ℕ) → (needs_of t).width ≡ 1 → HasNeeds t needs → last_need t ≡ get_or needs 0 0
+pub last_by : (t : TablesModel) (needs : List ℕ) → (needs_of t).width ≡ 1 → HasNeeds t needs → last_need t ≡ get_or needs 0 0
 last_by t [] wide h =
     let none : (needs_of t).count ≡ 0 = h.count in
     let test : nat_eq (needs_of t).count 0 ≡ true = grind (arith, nat_tests, none) in

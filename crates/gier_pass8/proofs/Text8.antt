@@ -11,9 +11,9 @@ use Rattle.gier_labels.specs.Pieces.{is_place, is_placed}
 use Rattle.gier_labels.proofs.Pieces.{by_kind}
 use Rattle.gier_tree.specs.Object.{Piece, APlace, AUse, AWordUse, head_of, address_in}
 use Rattle.gier_tree.specs.Object.{words_of, address_at, address_of, need_behind, is_used, known_order, kept_if, in_text8, with_place, known_from, text8_of}
-use Rattle.gier_text.specs.Kept.{Kept}
+use Rattle.gier_text.specs.TablesModel.{TablesModel}
 use Rattle.gier_pass8.specs.Exact.{words_in, Suits, AllSuit, WritesText8}
-use Rattle.gier_pass8.specs.Settled.{settled_by, settled, SettlesAll}
+use Rattle.gier_pass8.specs.FromTheEnd.{text8_by, text8_from, WritesFromTheEnd}
 use Rattle.gier_pass8.proofs.Needs.{differs}
 
 abbrev is_seen : ℕ → List ℕ → Bool
@@ -28,14 +28,14 @@ pub record Divides (text : List Symbol) (seen : List ℕ) (placed : ℕ → Bool
 
 abbrev Goes : (room : ℕ) → (text behind : List Symbol) → Type 0
 Goes room text behind = (seen : List ℕ) (place : ℕ) → Divides text seen (λ label. is_placed label behind) (λ label. address_of behind label place)
-    → settled place behind ≡ known_from text seen behind
+    → text8_from place behind ≡ known_from text seen behind
 
 abbrev Step : (room : ℕ) → (text : List Symbol) → List ℕ → (place : ℕ) → Symbol → (behind : List Symbol) → Piece → Type 0
 Step room text seen place s behind piece =
     Divides text seen (λ label. is_place label piece || is_placed label behind)
     (λ label. address_at piece label place (address_of behind label (place + words_of piece)))
     → Suits room text s.value piece behind → Goes room text behind
-    → settled_by piece place s behind (settled (place + words_of piece) behind)
+    → text8_by piece place s behind (text8_from (place + words_of piece) behind)
     ≡ in_text8 piece text seen s behind (known_from text (with_place piece seen) behind)
 
 -- Marks
@@ -99,14 +99,14 @@ step_use : (room : ℕ) (text : List Symbol) (seen : List ℕ) (place : ℕ) (s 
     → Step room text seen place s behind (AUse head number)
 step_use room text seen place s behind head number h suits go =
     let first = chosen text seen place number behind h suits.0.stands (λ (address : ℕ). known_order head address s.line) s in
-    ap (λ (x : Symbol). x ∷ settled (place + 1) behind) first
+    ap (λ (x : Symbol). x ∷ text8_from (place + 1) behind) first
     ∙ ap (λ (l : List Symbol). (if is_seen number seen then s else known_order head (address_of text number 0) s.line) ∷ l) (go seen (place + 1) h)
 
 step_word_use : (room : ℕ) (text : List Symbol) (seen : List ℕ) (place : ℕ) (s : Symbol) (behind : List Symbol) (number : ℕ)
     → Step room text seen place s behind (AWordUse number)
 step_word_use room text seen place s behind number h suits go =
     let first = chosen text seen place number behind h suits.0.stands (λ (address : ℕ). symbol Word address s.line) s in
-    ap (λ (x : Symbol). x ∷ settled (place + 1) behind) first
+    ap (λ (x : Symbol). x ∷ text8_from (place + 1) behind) first
     ∙ ap (λ (l : List Symbol). (if is_seen number seen then s else symbol Word (address_of text number 0) s.line) ∷ l) (go seen (place + 1) h)
 
 steps : (room : ℕ) (text behind : List Symbol) → AllSuit room text behind → Goes room text behind
@@ -128,18 +128,18 @@ steps room text (s ∷ behind) suits = λ seen place h.
 nothing_seen : (text : List Symbol) → Divides text [] (λ label. is_placed label text) (λ label. address_of text label 0)
 nothing_seen text = record { whole = λ label. refl; once = λ label here. refl; address = λ label here. refl }
 
-all_settled : (room : ℕ) (text : List Symbol) → AllSuit room text text → settled 0 text ≡ text8_of text
+all_settled : (room : ℕ) (text : List Symbol) → AllSuit room text text → text8_from 0 text ≡ text8_of text
 all_settled room text suits = steps room text text suits [] 0 (nothing_seen text)
 
 settled_from : (place : ℕ) (behind : List Symbol) → (0 < length behind → place + words_in behind ≡ words_in behind)
-    → settled place behind ≡ settled 0 behind
+    → text8_from place behind ≡ text8_from 0 behind
 settled_from place [] is = refl
 settled_from place (s ∷ behind) is =
     let whole : place + words_in (s ∷ behind) ≡ words_in (s ∷ behind) = is (omega arith) in
     let none : place ≡ 0 = omega (arith, whole) in
-    ap (λ (p : ℕ). settled p (s ∷ behind)) none
+    ap (λ (p : ℕ). text8_from p (s ∷ behind)) none
 
-pub writes_text8 : (bytes place : ℕ) (t : Kept) (read written : List Symbol) → SettlesAll bytes place t (reverse read) written
+pub writes_text8 : (bytes place : ℕ) (t : TablesModel) (read written : List Symbol) → WritesFromTheEnd bytes place t (reverse read) written
     → WritesText8 bytes read written
 writes_text8 bytes place t read written settles = record {
   text = λ complete.

@@ -1,8 +1,8 @@
 pub mod Words
 pub mod Lists
 pub mod Steps
-pub mod Learned
+pub mod Knowledge
 pub mod Exact
-pub mod Settled
+pub mod FromTheEnd
 pub mod Examples
-pub mod Standing
+pub mod Invariant

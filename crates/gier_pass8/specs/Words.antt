@@ -25,8 +25,8 @@ abbrev pub number_in : ℕ → ℕ
 number_in packed = packed % 2 ^ 24
 
 -- the order with another address; what has no order's number becomes a word
-abbrev pub filled : Symbol → ℕ → Symbol
-filled s address =
+abbrev pub with_address : Symbol → ℕ → Symbol
+with_address s address =
     if nat_lt 0 (s.value / 2 ^ 32) && nat_le (s.value / 2 ^ 32) 55
     then record { tag = 128 + s.value / 2 ^ 32; value = s.value % 2 ^ 32 / 2 ^ 24 * 2 ^ 24 + address; line = s.line }
     else record { tag = number_of Word; value = s.value; line = s.line }

@@ -3,14 +3,14 @@ ghost use Rattle.std.specs.Prelude.{◌≡◌, ◌≤◌, ◌+◌, ◌*◌, ◌<
 ghost use Rattle.gier_word.specs.Cause.{HasRisen};
 ghost use Rattle.gier_symbol.specs.Symbols.{IsSymbol};
 ghost use Rattle.gier_text.specs.declared.pass.PassStop.TheVariants.{Drum, Memory, Full};
-ghost use Rattle.gier_text.specs.Kept.{kept, fresh};
+ghost use Rattle.gier_text.specs.TablesModel.{tables_model, fresh};
 ghost use Rattle.gier_text.specs.Log.{Logged};
 ghost use Rattle.gier_text.specs.Outbox.{if_any};
 ghost use Rattle.gier_text.specs.Passes.{SpoiltIf};
 ghost use Rattle.gier_text.specs.View.{WritesAll, IsFull, IsPlacedAs, KeepsTracks, KeepsOthers};
-ghost use Rattle.gier_pass8.specs.Standing.{IsShort, Relates, Stands};
+ghost use Rattle.gier_pass8.specs.Invariant.{IsShort, Relates, PassInvariant};
 
-use crate::step::{NEED_WIDTH, Work, room};
+use crate::step::{NEED_WIDTH, State, room};
 use gier_symbol::{Alphabet, Coded, Symbol};
 use gier_text::{Pass, PassStop, Tables, Text, write};
 use gier_word::Odd;
@@ -22,7 +22,7 @@ use gier_word::Odd;
 pub struct Pass8 {
     // How many symbols were taken.
     taken: u32,
-    work: Work,
+    work: State,
 }
 
 // The greatest number of symbols of text 7 of a program of so many bytes.
@@ -36,18 +36,18 @@ fn most(bytes: u32) -> u32
 impl Pass8 {
     /// The pass over text 7 of a program of so many bytes. The tables must be cleared and hold no fault.
     pub fn open(tables: &mut Tables, bytes: u32) -> Pass8
-        requires cleared { kept tables.old ≡ fresh (kept tables.old).limit }
-        requires bytes { bytes ≤ (kept tables.old).limit }
-        ensures stands { Stands result (kept tables.new) [] [] }
+        requires cleared { tables_model tables.old ≡ fresh (tables_model tables.old).limit }
+        requires bytes { bytes ≤ (tables_model tables.old).limit }
+        ensures stands { PassInvariant result (tables_model tables.new) [] [] }
         ensures bytes { result.work.bytes ≡ bytes }
-        ensures faults { (kept tables.new).faults ≡ [] }
-        ensures limit { (kept tables.new).limit ≡ (kept tables.old).limit }
+        ensures faults { (tables_model tables.new).faults ≡ [] }
+        ensures limit { (tables_model tables.new).limit ≡ (tables_model tables.old).limit }
     {
         gier_labels::open(tables, room(bytes));
         tables.list(NEED_WIDTH, room(bytes));
         Pass8 {
             taken: 0,
-            work: Work { bytes, place: 0 },
+            work: State { bytes, place: 0 },
         }
     }
 }
@@ -90,7 +90,7 @@ impl Pass for Pass8 {
 
     ghost GROWTH = { 24 };
 
-    ghost stands = { λ pass tables read written. Stands pass (kept tables) read written };
+    ghost stands = { λ pass tables read written. PassInvariant pass (tables_model tables) read written };
 
     ghost relates = { λ pass tables read written. Relates pass.work.bytes read written };
 

@@ -1,13 +1,13 @@
 // How each symbol of text 7 is taken: at most one is written for it.
 ghost use Rattle.std.specs.Prelude.{◌≡◌, ◌≤◌, ◌<◌, ◌+◌, ◌*◌, ◌^◌, IfSome, IsTrue};
 ghost use Rattle.gier_symbol.specs.Symbols.{IsSymbol};
-ghost use Rattle.gier_text.specs.Kept.{kept};
-ghost use Rattle.gier_pass8.specs.Words.{word_of, sum_of, number_in, filled};
+ghost use Rattle.gier_text.specs.TablesModel.{tables_model};
+ghost use Rattle.gier_pass8.specs.Words.{word_of, sum_of, number_in, with_address};
 ghost use Rattle.gier_symbol.specs.declared.tag.Tag.TheVariants.{LabelPlace};
 ghost use Rattle.gier_symbol.specs.Texts.{is_tag_of};
 ghost use Rattle.gier_pass8.specs.Steps.{known, mark_with, order_with, word_with, last_need, text8_of, word8_of, place_before};
 ghost use Rattle.gier_pass8.specs.Lists.{HasLists, IsWritable, Keeps};
-ghost use Rattle.gier_pass8.specs.Learned.{Knows, with_known, noted, known_word, known_behind, needs_of, with_need, without_need, needs_behind};
+ghost use Rattle.gier_pass8.specs.Knowledge.{Knows, with_known, with_label_used, known_word, known_behind, needs_of, with_need, without_need, needs_behind};
 ghost use Rattle.gier_pass8.specs.declared.words.Label.TheVariants.{Used, At};
 
 use crate::words::{ADDRESSES, Label, filled, number_in, sum};
@@ -23,7 +23,7 @@ const NEED: u8 = 0;
 
 /// What the pass knows beside its tables.
 #[derive(Debug, Drop)]
-pub(crate) struct Work {
+pub(crate) struct State {
     // How many bytes the program has.
     pub(crate) bytes: u32,
     // How many words of the object stand before what was read.
@@ -40,32 +40,32 @@ pub(crate) fn room(bytes: u32) -> u32
     20 * bytes + 64
 }
 
-impl Work {
+impl State {
     // What is known of a label.
     fn label(&self, tables: &Tables, number: u64) -> Label
-        requires lists { HasLists self.now.bytes (kept tables.now) }
-        ensures value { result ≡ known (kept tables.now) number }
+        requires lists { HasLists self.now.bytes (tables_model tables.now) }
+        ensures value { result ≡ known (tables_model tables.now) number }
         ensures small { word_of result < 2 ^ 40 }
     {
         Label::of(gier_labels::word(tables, number))
     }
 
     fn set_used(&self, tables: &mut Tables, number: u64)
-        requires lists { HasLists self.now.bytes (kept tables.old) }
-        ensures lists { Keeps self.now.bytes (kept tables.old) (kept tables.new) }
-        ensures labels { Knows (20 * self.now.bytes + 64) (kept tables.new)
-            (λ label. with_known number Used label (known (kept tables.old) label)) }
-        ensures needs { needs_of (kept tables.new) ≡ needs_of (kept tables.old) }
+        requires lists { HasLists self.now.bytes (tables_model tables.old) }
+        ensures lists { Keeps self.now.bytes (tables_model tables.old) (tables_model tables.new) }
+        ensures labels { Knows (20 * self.now.bytes + 64) (tables_model tables.new)
+            (λ label. with_known number Used label (known (tables_model tables.old) label)) }
+        ensures needs { needs_of (tables_model tables.new) ≡ needs_of (tables_model tables.old) }
     {
         gier_labels::set_word(tables, number, Label::Used.word(), room(self.bytes));
     }
 
     fn set_place(&self, tables: &mut Tables, number: u64)
-        requires lists { HasLists self.now.bytes (kept tables.old) }
-        ensures lists { Keeps self.now.bytes (kept tables.old) (kept tables.new) }
-        ensures labels { Knows (20 * self.now.bytes + 64) (kept tables.new)
-            (λ label. with_known number (At self.now.place) label (known (kept tables.old) label)) }
-        ensures needs { needs_of (kept tables.new) ≡ needs_of (kept tables.old) }
+        requires lists { HasLists self.now.bytes (tables_model tables.old) }
+        ensures lists { Keeps self.now.bytes (tables_model tables.old) (tables_model tables.new) }
+        ensures labels { Knows (20 * self.now.bytes + 64) (tables_model tables.new)
+            (λ label. with_known number (At self.now.place) label (known (tables_model tables.old) label)) }
+        ensures needs { needs_of (tables_model tables.new) ≡ needs_of (tables_model tables.old) }
     {
         gier_labels::set_word(
             tables,
@@ -77,14 +77,14 @@ impl Work {
 
     // The mark of a label is written where there are uses behind it, for which the address is still to be found.
     fn mark(&self, tables: &mut Tables, s: Symbol) -> Option<Symbol>
-        requires lists { HasLists self.now.bytes (kept tables.old) }
+        requires lists { HasLists self.now.bytes (tables_model tables.old) }
         requires symbol { IsSymbol s }
         requires kind { IsTrue (is_tag_of LabelPlace s.tag) }
-        ensures lists { Keeps self.now.bytes (kept tables.old) (kept tables.new) }
-        ensures value { result ≡ mark_with (known (kept tables.old) s.value) s }
-        ensures labels { Knows (20 * self.now.bytes + 64) (kept tables.new)
-            (λ label. with_known s.value (At self.now.place) label (known (kept tables.old) label)) }
-        ensures needs { needs_of (kept tables.new) ≡ needs_of (kept tables.old) }
+        ensures lists { Keeps self.now.bytes (tables_model tables.old) (tables_model tables.new) }
+        ensures value { result ≡ mark_with (known (tables_model tables.old) s.value) s }
+        ensures labels { Knows (20 * self.now.bytes + 64) (tables_model tables.new)
+            (λ label. with_known s.value (At self.now.place) label (known (tables_model tables.old) label)) }
+        ensures needs { needs_of (tables_model tables.new) ≡ needs_of (tables_model tables.old) }
         ensures written { IfSome result IsWritable }
     {
         let known = self.label(tables, s.value);
@@ -97,13 +97,13 @@ impl Work {
 
     // An order with a label number. Its address is known where the label's mark stands behind it.
     fn label_order(&self, tables: &mut Tables, s: Symbol) -> Symbol
-        requires lists { HasLists self.now.bytes (kept tables.old) }
+        requires lists { HasLists self.now.bytes (tables_model tables.old) }
         requires symbol { IsWritable s }
-        ensures lists { Keeps self.now.bytes (kept tables.old) (kept tables.new) }
-        ensures value { result ≡ order_with (known (kept tables.old) (number_in s.value)) s }
-        ensures labels { Knows (20 * self.now.bytes + 64) (kept tables.new) (λ label.
-            noted (known (kept tables.old) (number_in s.value)) (number_in s.value) label (known (kept tables.old) label)) }
-        ensures needs { needs_of (kept tables.new) ≡ needs_of (kept tables.old) }
+        ensures lists { Keeps self.now.bytes (tables_model tables.old) (tables_model tables.new) }
+        ensures value { result ≡ order_with (known (tables_model tables.old) (number_in s.value)) s }
+        ensures labels { Knows (20 * self.now.bytes + 64) (tables_model tables.new) (λ label.
+            with_label_used (known (tables_model tables.old) (number_in s.value)) (number_in s.value) label (known (tables_model tables.old) label)) }
+        ensures needs { needs_of (tables_model tables.new) ≡ needs_of (tables_model tables.old) }
         ensures written { IsWritable result }
     {
         let number = number_in(s.value);
@@ -118,13 +118,13 @@ impl Work {
 
     // A word that is a label number.
     fn label_word(&self, tables: &mut Tables, s: Symbol) -> Symbol
-        requires lists { HasLists self.now.bytes (kept tables.old) }
+        requires lists { HasLists self.now.bytes (tables_model tables.old) }
         requires symbol { IsWritable s }
-        ensures lists { Keeps self.now.bytes (kept tables.old) (kept tables.new) }
-        ensures value { result ≡ word_with (known (kept tables.old) s.value) s }
-        ensures labels { Knows (20 * self.now.bytes + 64) (kept tables.new)
-            (λ label. noted (known (kept tables.old) s.value) s.value label (known (kept tables.old) label)) }
-        ensures needs { needs_of (kept tables.new) ≡ needs_of (kept tables.old) }
+        ensures lists { Keeps self.now.bytes (tables_model tables.old) (tables_model tables.new) }
+        ensures value { result ≡ word_with (known (tables_model tables.old) s.value) s }
+        ensures labels { Knows (20 * self.now.bytes + 64) (tables_model tables.new)
+            (λ label. with_label_used (known (tables_model tables.old) s.value) s.value label (known (tables_model tables.old) label)) }
+        ensures needs { needs_of (tables_model tables.new) ≡ needs_of (tables_model tables.old) }
         ensures written { IsWritable result }
     {
         match self.label(tables, s.value) {
@@ -138,11 +138,11 @@ impl Work {
 
     // Keeps what the activation needs whose last order comes next.
     fn push_need(&self, tables: &mut Tables, need: u64)
-        requires lists { HasLists self.now.bytes (kept tables.old) }
+        requires lists { HasLists self.now.bytes (tables_model tables.old) }
         requires small { need < 2 ^ 40 }
-        ensures lists { Keeps self.now.bytes (kept tables.old) (kept tables.new) }
-        ensures labels { Knows (20 * self.now.bytes + 64) (kept tables.new) (λ label. known (kept tables.old) label) }
-        ensures needs { needs_of (kept tables.new) ≡ with_need (20 * self.now.bytes + 64) need (needs_of (kept tables.old)) }
+        ensures lists { Keeps self.now.bytes (tables_model tables.old) (tables_model tables.new) }
+        ensures labels { Knows (20 * self.now.bytes + 64) (tables_model tables.new) (λ label. known (tables_model tables.old) label) }
+        ensures needs { needs_of (tables_model tables.new) ≡ with_need (20 * self.now.bytes + 64) need (needs_of (tables_model tables.old)) }
     {
         if tables.len(NEEDS) < room(self.bytes) {
             tables.push(NEEDS, &[need]);
@@ -151,11 +151,11 @@ impl Work {
 
     // What the innermost activation needs, which has been read whole; 0 where there is none.
     fn pop_need(&self, tables: &mut Tables) -> u64
-        requires lists { HasLists self.now.bytes (kept tables.old) }
-        ensures lists { Keeps self.now.bytes (kept tables.old) (kept tables.new) }
-        ensures value { result ≡ last_need (kept tables.old) }
-        ensures labels { Knows (20 * self.now.bytes + 64) (kept tables.new) (λ label. known (kept tables.old) label) }
-        ensures needs { needs_of (kept tables.new) ≡ without_need (needs_of (kept tables.old)) }
+        requires lists { HasLists self.now.bytes (tables_model tables.old) }
+        ensures lists { Keeps self.now.bytes (tables_model tables.old) (tables_model tables.new) }
+        ensures value { result ≡ last_need (tables_model tables.old) }
+        ensures labels { Knows (20 * self.now.bytes + 64) (tables_model tables.new) (λ label. known (tables_model tables.old) label) }
+        ensures needs { needs_of (tables_model tables.new) ≡ without_need (needs_of (tables_model tables.old)) }
         ensures small { result < 2 ^ 40 }
     {
         let count = tables.len(NEEDS);
@@ -169,12 +169,12 @@ impl Work {
 
     // The order that begins an activation, with its whole room.
     fn open_room(&self, tables: &mut Tables, s: Symbol) -> Symbol
-        requires lists { HasLists self.now.bytes (kept tables.old) }
+        requires lists { HasLists self.now.bytes (tables_model tables.old) }
         requires symbol { IsSymbol s }
-        ensures lists { Keeps self.now.bytes (kept tables.old) (kept tables.new) }
-        ensures value { result ≡ filled s (sum_of (number_in s.value) (last_need (kept tables.old))) }
-        ensures labels { Knows (20 * self.now.bytes + 64) (kept tables.new) (λ label. known (kept tables.old) label) }
-        ensures needs { needs_of (kept tables.new) ≡ without_need (needs_of (kept tables.old)) }
+        ensures lists { Keeps self.now.bytes (tables_model tables.old) (tables_model tables.new) }
+        ensures value { result ≡ with_address s (sum_of (number_in s.value) (last_need (tables_model tables.old))) }
+        ensures labels { Knows (20 * self.now.bytes + 64) (tables_model tables.new) (λ label. known (tables_model tables.old) label) }
+        ensures needs { needs_of (tables_model tables.new) ≡ without_need (needs_of (tables_model tables.old)) }
         ensures written { IsWritable result }
     {
         let need = self.pop_need(tables);
@@ -183,13 +183,13 @@ impl Work {
 
     /// Takes a symbol, and gives what is to be written for it.
     pub(crate) fn step(&mut self, tables: &mut Tables, s: Symbol) -> Option<Symbol>
-        requires lists { HasLists self.old.bytes (kept tables.old) }
+        requires lists { HasLists self.old.bytes (tables_model tables.old) }
         requires symbol { IsSymbol s }
-        ensures lists { Keeps self.old.bytes (kept tables.old) (kept tables.new) }
+        ensures lists { Keeps self.old.bytes (tables_model tables.old) (tables_model tables.new) }
         ensures bytes { self.new.bytes ≡ self.old.bytes }
-        ensures value { result ≡ text8_of (kept tables.old) s }
-        ensures labels { Knows (20 * self.old.bytes + 64) (kept tables.new) (known_behind (kept tables.old) self.old.place s) }
-        ensures needs { needs_of (kept tables.new) ≡ needs_behind (20 * self.old.bytes + 64) s (needs_of (kept tables.old)) }
+        ensures value { result ≡ text8_of (tables_model tables.old) s }
+        ensures labels { Knows (20 * self.old.bytes + 64) (tables_model tables.new) (known_behind (tables_model tables.old) self.old.place s) }
+        ensures needs { needs_of (tables_model tables.new) ≡ needs_behind (20 * self.old.bytes + 64) s (needs_of (tables_model tables.old)) }
         ensures place { self.new.place ≡ place_before self.old.place s }
         ensures written { IfSome result IsWritable }
     {
@@ -213,12 +213,12 @@ impl Work {
 
     // A word of the object that isn't the beginning of an activation.
     fn step_word(&self, tables: &mut Tables, s: Symbol) -> Option<Symbol>
-        requires lists { HasLists self.now.bytes (kept tables.old) }
+        requires lists { HasLists self.now.bytes (tables_model tables.old) }
         requires symbol { IsSymbol s }
-        ensures lists { Keeps self.now.bytes (kept tables.old) (kept tables.new) }
-        ensures value { result ≡ word8_of (kept tables.old) s }
-        ensures labels { Knows (20 * self.now.bytes + 64) (kept tables.new) (known_word (kept tables.old) s) }
-        ensures needs { needs_of (kept tables.new) ≡ needs_of (kept tables.old) }
+        ensures lists { Keeps self.now.bytes (tables_model tables.old) (tables_model tables.new) }
+        ensures value { result ≡ word8_of (tables_model tables.old) s }
+        ensures labels { Knows (20 * self.now.bytes + 64) (tables_model tables.new) (known_word (tables_model tables.old) s) }
+        ensures needs { needs_of (tables_model tables.new) ≡ needs_of (tables_model tables.old) }
         ensures written { IfSome result IsWritable }
     {
         if !stands_in(8, s.tag) {

@@ -2,7 +2,7 @@
 ghost use Rattle.std.specs.Prelude.{◌≡◌, ◌<◌, ◌^◌, IsTrue};
 ghost use Rattle.gier_symbol.specs.Symbols.{IsSymbol};
 ghost use Rattle.gier_symbol.specs.Texts.{stands_in};
-ghost use Rattle.gier_pass8.specs.Words.{sum_of, label_of, word_of, number_in, filled};
+ghost use Rattle.gier_pass8.specs.Words.{sum_of, label_of, word_of, number_in, with_address};
 
 use gier_symbol::{LAST_ORDER, ORDER_BASE, Symbol, Tag};
 
@@ -77,7 +77,7 @@ pub(crate) fn number_in(packed: u64) -> u64
 pub(crate) fn filled(s: Symbol, address: u64) -> Symbol
     requires symbol { IsSymbol s }
     requires address { address < 2 ^ 24 }
-    ensures value { result ≡ filled s address }
+    ensures value { result ≡ with_address s address }
     ensures symbol { IsSymbol result }
     ensures letter { IsTrue (stands_in 8 result.tag) }
 {

@@ -1,4 +1,4 @@
 pub mod Pages
-pub mod Made
+pub mod WordsMade
 pub mod Objects
-pub mod Written
+pub mod PassSteps

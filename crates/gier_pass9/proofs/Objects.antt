@@ -16,7 +16,7 @@ use Rattle.gier_tree.specs.Object.{words_of, address_at, address_of, need_behind
 use Rattle.gier_tree.specs.Object.{with_place, known_from, text8_of, object_word, object_from, object_of}
 use Rattle.gier_labels.proofs.Pieces.{by_kind}
 use Rattle.gier_pass9.specs.Words.{room_of}
-use Rattle.gier_pass9.specs.Making.{Marks, no_marks, marked, word_by, words_from, object_words}
+use Rattle.gier_pass9.specs.ObjectOfText.{Marks, no_marks, with_mark, word_by, words_from, object_words}
 use Rattle.gier_pass9.specs.Objects.{Fits, AllFit, IsText7}
 
 -- no address is above the number of words
@@ -145,12 +145,12 @@ lt_test a b lt = grind (arith, nat_tests)
 
 -- a mark makes no word
 one_mark : (room : ℕ) (marks : Marks) (place : ℕ) (s : Symbol) (text : List Symbol) → s.tag ≡ 121
-    → words_from room marks place (s ∷ text) ≡ words_from room (marked room s.value place marks) place text
+    → words_from room marks place (s ∷ text) ≡ words_from room (with_mark room s.value place marks) place text
 one_mark room marks place s text e = let zero : place + 0 ≡ place = omega arith in rw (e, zero) refl
 
 known_mark : (room : ℕ) (text : List Symbol) (seen : List ℕ) (marks : Marks) (v place : ℕ) (behind : List Symbol)
     → KnownAs text seen marks (λ label. is_used label behind) → place_of v < room → address_of text v 0 ≡ place
-    → KnownAs text (v ∷ seen) (marked room v place marks) (λ label. is_used label behind)
+    → KnownAs text (v ∷ seen) (with_mark room v place marks) (λ label. is_used label behind)
 known_mark room text seen marks v place behind known fits here = λ label in_seen used. elim (cases_eq label v) [
   | inl e ↦ rw (e, same_self v, lt_test (place_of v) room fits) (ap (λ (a : ℕ). Some a) (sym here))
   | inr ne ↦ rw (differs label v ne) (known label (rw (differs v label (λ (same : v ≡ label). ne (sym same))) at in_seen) used)
@@ -183,7 +183,7 @@ step_place room text seen marks place s behind e known placed fits go =
     let further = placed_mark text s.value place behind placed fits.1 in
     elim (cases_Bool (is_used s.value behind)) [
       | inl used ↦ rw used (one_mark room marks place s (known_from text (s.value ∷ seen) behind) e
-          ∙ go (s.value ∷ seen) (marked room s.value place marks) place
+          ∙ go (s.value ∷ seen) (with_mark room s.value place marks) place
           (known_mark room text seen marks s.value place behind known fits.0 (placed_here text s.value place behind placed)) further)
       | inr unused ↦ rw unused (go (s.value ∷ seen) marks place (known_passed text seen marks s.value behind known unused) further)
     ]

@@ -6,14 +6,14 @@ use Rattle.std.proofs.lemmas.List.{ext_get_or, get_or-set_same, get_or-set_other
 use Rattle.std.proofs.lemmas.List.{length-append, length-set}
 use Rattle.gier_drum.specs.Drum.{SetsTrack}
 use Rattle.gier_text.specs.View.{Apart, KeepsTracks, SameTracks}
-use Rattle.gier_text.proofs.Listed.{length-listed, get_or-listed}
-use Rattle.gier_pass9.specs.Making.{page, HoldsPages}
+use Rattle.gier_text.proofs.Tabulation.{length-tabulated, get_or-tabulated}
+use Rattle.gier_pass9.specs.ObjectOfText.{page, HoldsPages}
 
 page_at : (words : List ℕ) (t k : ℕ) → k < 40 → get_or (page words t) k 0 ≡ get_or words (40 * t + k) 0
-page_at words t k lt = get_or-listed (λ (j : ℕ). get_or words (40 * t + j) 0) 40 k 0 lt
+page_at words t k lt = get_or-tabulated (λ (j : ℕ). get_or words (40 * t + j) 0) 40 k 0 lt
 
 page_long : (words : List ℕ) (t : ℕ) → length (page words t) ≡ 40
-page_long words t = length-listed (λ (j : ℕ). get_or words (40 * t + j) 0) 40
+page_long words t = length-tabulated (λ (j : ℕ). get_or words (40 * t + j) 0) 40
 
 -- a track of forty words is the page whose words it has
 is_page : (track words : List ℕ) (t : ℕ) → length track ≡ 40 → ((k : ℕ) → k < 40 → get_or track k 0 ≡ get_or words (40 * t + k) 0)

@@ -1,6 +1,6 @@
 pub mod Words
 pub mod Object
-pub mod Written
-pub mod Making
-pub mod MakingExamples
+pub mod PassOutput
+pub mod ObjectOfText
+pub mod ObjectExamples
 pub mod Objects

@@ -8,7 +8,7 @@ use Rattle.gier_tree.specs.Object.{Piece, APlace, ARoom, AnOrder, piece_of, need
 use Rattle.gier_tree.specs.Object.{text8, object_of, code}
 use Rattle.gier_tree.specs.Text7.{text7}
 use Rattle.gier_tree.specs.Trees.{Program}
-use Rattle.gier_pass9.specs.Making.{object_words}
+use Rattle.gier_pass9.specs.ObjectOfText.{object_words}
 use Rattle.gier_pass9.specs.Words.{room_of}
 
 -- a label has room and stands nowhere behind, a room is an address, and level and address of an order take 32 bits

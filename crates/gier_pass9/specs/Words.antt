@@ -3,7 +3,7 @@ use Rattle.std.specs.Prelude.{◌≡◌, ◌+◌, ◌-◌, ◌*◌, ◌/◌, ◌
 use Rattle.gier_symbol.specs.declared.symbol.Symbol.{Symbol}
 use Rattle.gier_symbol.specs.declared.tag.Tag.TheVariants.{LabelOrder, LabelWord}
 use Rattle.gier_symbol.specs.Texts.{is_tag_of}
-use Rattle.gier_text.specs.Kept.{Kept}
+use Rattle.gier_text.specs.TablesModel.{TablesModel}
 use Rattle.gier_labels.specs.Labels.{HasLabels, word_of as label_word}
 
 -- how many labels of either kind there is room for
@@ -14,7 +14,7 @@ room_of limit = 20 * limit + 64
 abbrev pub address_in : ℕ → ℕ
 address_in word = min (word - 1) (2 ^ 24 - 1)
 
-abbrev pub address_of : Kept → ℕ → ℕ
+abbrev pub address_of : TablesModel → ℕ → ℕ
 address_of t label = address_in (label_word t label)
 
 abbrev pub with_address : ℕ → ℕ → ℕ
@@ -23,7 +23,7 @@ with_address word address = word / 2 ^ 24 * 2 ^ 24 + address
 abbrev pub order_word : Symbol → ℕ
 order_word s = (s.tag - 128) * 2 ^ 32 + s.value % 2 ^ 32
 
-abbrev pub word_of : Kept → Symbol → ℕ
+abbrev pub word_of : TablesModel → Symbol → ℕ
 word_of t s =
     if is_tag_of LabelOrder s.tag then with_address s.value (address_of t (s.value % 2 ^ 24))
     else (if is_tag_of LabelWord s.tag then address_of t s.value
@@ -31,7 +31,7 @@ word_of t s =
     else order_word s))
 
 -- the words of labels stay a list with room for so many, and the faults stay
-pub record KeepsLabels (room : ℕ) (old new : Kept) : Type 0 where
+pub record KeepsLabels (room : ℕ) (old new : TablesModel) : Type 0 where
   pub labels : HasLabels room new
   pub limit : new.limit ≡ old.limit
   pub faults : new.faults ≡ old.faults

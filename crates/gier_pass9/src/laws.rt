@@ -1,5 +1,5 @@
 // The laws of objects. They have no code: each says what its contract says.
-ghost use Rattle.gier_pass9.specs.MakingExamples.{AreMade};
+ghost use Rattle.gier_pass9.specs.ObjectExamples.{AreMade};
 ghost use Rattle.gier_pass9.specs.Objects.{AreObjects};
 
 /// The words that are made of a text 8, by example.

@@ -39,7 +39,7 @@ fn zeros() -> [u64; 40]
 
 impl Object {
     ghost use Rattle.std.specs.Prelude.{◌++◌, ◌∷◌, List, [], Option};
-    ghost use Rattle.gier_pass9.specs.Making.{HasWords, HoldsWords};
+    ghost use Rattle.gier_pass9.specs.ObjectOfText.{HasWords, HoldsWords};
 
     /// An object without words, from this track on.
     pub(crate) fn at(first: u32, most: u32) -> Object

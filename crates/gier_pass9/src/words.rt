@@ -1,10 +1,10 @@
 // The word that a symbol of text 8 stands for, by the labels whose marks were read. No table is changed here but by a mark.
 ghost use Rattle.std.specs.Prelude.{◌≡◌, ◌≤◌, ◌<◌, ◌^◌, ℕ};
 ghost use Rattle.gier_symbol.specs.Symbols.{IsSymbol};
-ghost use Rattle.gier_text.specs.Kept.{kept};
+ghost use Rattle.gier_text.specs.TablesModel.{tables_model};
 ghost use Rattle.gier_labels.specs.Labels.{HasLabels};
 ghost use Rattle.gier_pass9.specs.Words.{room_of, address_in, address_of, with_address, order_word, word_of, KeepsLabels};
-ghost use Rattle.gier_pass9.specs.Making.{marked, marks_of, word_by};
+ghost use Rattle.gier_pass9.specs.ObjectOfText.{with_mark, marks_of, word_by};
 
 use gier_symbol::{ORDER_BASE, Symbol, Tag};
 use gier_text::Tables;
@@ -30,9 +30,9 @@ pub(crate) fn room(limit: u32) -> u32
 
 /// The mark of a label stands before the word with this number.
 pub(crate) fn set_mark(tables: &mut Tables, label: u64, place: u32, room: u32)
-    requires labels { HasLabels room (kept tables.old) }
-    ensures kept { KeepsLabels room (kept tables.old) (kept tables.new) }
-    ensures marks { (other : ℕ) → marks_of (kept tables.new) other ≡ marked room label place (marks_of (kept tables.old)) other }
+    requires labels { HasLabels room (tables_model tables.old) }
+    ensures kept { KeepsLabels room (tables_model tables.old) (tables_model tables.new) }
+    ensures marks { (other : ℕ) → marks_of (tables_model tables.new) other ≡ with_mark room label place (marks_of (tables_model tables.old)) other }
 {
     gier_labels::set_word(tables, label, u64::from(place) + MARKED, room);
 }
@@ -46,8 +46,8 @@ fn address_in(word: u64) -> u64
 }
 
 fn address(tables: &Tables, label: u64) -> u64
-    requires labels { (room : ℕ) × HasLabels room (kept tables.now) }
-    ensures value { result ≡ address_of (kept tables.now) label }
+    requires labels { (room : ℕ) × HasLabels room (tables_model tables.now) }
+    ensures value { result ≡ address_of (tables_model tables.now) label }
     ensures address { result < 2 ^ 24 }
 {
     address_in(gier_labels::word(tables, label))
@@ -74,10 +74,10 @@ fn order_word(s: Symbol) -> u64
 
 /// The word of the object that a symbol of text 8 other than a mark stands for.
 pub(crate) fn word_for(tables: &Tables, s: Symbol) -> u64
-    requires labels { (room : ℕ) × HasLabels room (kept tables.now) }
+    requires labels { (room : ℕ) × HasLabels room (tables_model tables.now) }
     requires symbol { IsSymbol s }
-    ensures value { result ≡ word_of (kept tables.now) s }
-    ensures made { result ≡ word_by (marks_of (kept tables.now)) s }
+    ensures value { result ≡ word_of (tables_model tables.now) s }
+    ensures made { result ≡ word_by (marks_of (tables_model tables.now)) s }
     ensures small { result < 2 ^ 40 }
 {
     if s.tag == Tag::LabelOrder.number() {

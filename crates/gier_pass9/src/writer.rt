@@ -7,16 +7,16 @@ ghost use Rattle.gier_symbol.specs.Symbols.{IsSymbol};
 ghost use Rattle.gier_symbol.specs.Texts.{stands_in};
 ghost use Rattle.gier_text.specs.declared.pass.PassStop.TheVariants.{Drum as DrumStop, Memory, Full};
 ghost use Rattle.gier_text.specs.declared.text.Way.TheVariants.{Backward};
-ghost use Rattle.gier_text.specs.Driven.{SpoiltAs};
-ghost use Rattle.gier_text.specs.Kept.{kept};
+ghost use Rattle.gier_text.specs.Drive.{SpoiltAs};
+ghost use Rattle.gier_text.specs.TablesModel.{tables_model};
 ghost use Rattle.gier_text.specs.Log.{LogsAll};
 ghost use Rattle.gier_text.specs.Passes.{SpoiltIf};
 ghost use Rattle.gier_text.specs.View.{Apart, IsUnread, IsLeft, IsPlacedAs, KeepsTracks};
 ghost use Rattle.gier_labels.specs.Labels.{HasLabels};
 ghost use Rattle.gier_pass9.specs.Words.{KeepsLabels, room_of};
-ghost use Rattle.gier_pass9.specs.Making.{Makes, HasWords, HoldsWords, marks_of, marks_behind, words_with};
+ghost use Rattle.gier_pass9.specs.ObjectOfText.{Makes, HasWords, HoldsWords, marks_of, marks_behind, words_with};
 ghost use Rattle.gier_pass9.specs.Object.{tracks_of, full_track, last_track};
-ghost use Rattle.gier_pass9.specs.Written.{words_for, words_in, AreLetters, IsObjectText, IsWrong, Fills, AreThose, word_log};
+ghost use Rattle.gier_pass9.specs.PassOutput.{words_for, words_in, AreLetters, IsObjectText, IsWrong, Fills, AreThose, word_log};
 
 use crate::object::Object;
 use crate::words::{room, set_mark, word_for};
@@ -51,7 +51,7 @@ impl Pass9 {
         ensures read { IfOk result
             (λ n. (read : List Symbol) × IsLeft (T.view text.old drum.old) read × AreLetters read × (words_in read ≡ n)) }
         ensures made { IfOk result
-            (λ n. Makes (T.view text.old drum.old) (kept tables.old).limit first_track (D.tracks drum.new) n) }
+            (λ n. Makes (T.view text.old drum.old) (tables_model tables.old).limit first_track (D.tracks drum.new) n) }
         ensures wrote { IfOk result
             (λ n. Fills (T.view text.old drum.old) (T.view text.new drum.new) first_track (tracks_of n) (D.journal drum.old)
             (D.journal drum.new)) }
@@ -68,8 +68,8 @@ impl Pass9 {
         ensures spoilt { (all : List Symbol) → (T.view text.old drum.old).left ≡ Some all → SpoiltAs result (IsWrong most all) }
         ensures sound { (all : List Symbol) → (T.view text.old drum.old).left ≡ Some all → IsObjectText most all
             → SpoiltIf result ⊥ }
-        ensures limit { (kept tables.new).limit ≡ (kept tables.old).limit }
-        ensures faults { (kept tables.new).faults ≡ (kept tables.old).faults }
+        ensures limit { (tables_model tables.new).limit ≡ (tables_model tables.old).limit }
+        ensures faults { (tables_model tables.new).faults ≡ (tables_model tables.old).faults }
     {
         let labels = room(tables.limit());
         tables.clear();
@@ -103,20 +103,20 @@ fn take<T: Text<Store = D>, D: Drum>(
     s: Symbol,
 ) -> Result<(), PassStop>
     requires symbol { IsSymbol s }
-    requires labels { HasLabels labels (kept tables.old) }
+    requires labels { HasLabels labels (tables_model tables.old) }
     requires in_room { object.old.first + tracks_of object.old.most ≤ D.room drum.old }
     requires apart { Apart (T.first_track text.now) (T.end_track text.now) object.old.first
         (object.old.first + tracks_of object.old.most) }
     requires same { AreThose T.room D.room T.tracks D.tracks T.journal D.journal T.faults D.faults }
-    ensures labels { KeepsLabels labels (kept tables.old) (kept tables.new) }
+    ensures labels { KeepsLabels labels (tables_model tables.old) (tables_model tables.new) }
     ensures letter { OnOk result (IsTrue (stands_in 8 s.tag)) }
     ensures place { (object.new.first ≡ object.old.first) × (object.new.most ≡ object.old.most) }
     ensures count { OnOk result (object.new.count ≡ object.old.count + words_for s) }
     ensures marks { OnOk result
-        ((label : ℕ) → marks_of (kept tables.new) label ≡ marks_behind labels object.old.count s
-        (marks_of (kept tables.old)) label) }
+        ((label : ℕ) → marks_of (tables_model tables.new) label ≡ marks_behind labels object.old.count s
+        (marks_of (tables_model tables.old)) label) }
     ensures made { OnOk result ((words : List ℕ) → HasWords object.old (D.tracks drum.old) words
-        → HasWords object.new (D.tracks drum.new) (words ++ words_with (marks_of (kept tables.old)) s)) }
+        → HasWords object.new (D.tracks drum.new) (words ++ words_with (marks_of (tables_model tables.old)) s)) }
     ensures refused { OnErr result (object.new.count ≡ object.old.count) }
     ensures text { T.view text.now drum.new ≡ T.view text.now drum.old }
     ensures tracks { KeepsTracks object.old.first (object.old.first + tracks_of object.old.most) (D.tracks drum.old)

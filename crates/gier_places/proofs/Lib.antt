@@ -1,3 +1,3 @@
-pub mod Moving
-pub mod Apart
+pub mod MoveToFront
+pub mod SlotsApart
 pub mod References

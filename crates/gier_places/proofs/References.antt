@@ -10,11 +10,11 @@ use Rattle.gier_drum.specs.declared.drum.Entry.TheVariants.{Read}
 use Rattle.gier_drum.specs.Drum.{GivesTrack, Logs}
 use Rattle.gier_order.specs.Misses.{is_among, without, misses, most_recent}
 use Rattle.gier_order.proofs.Recency.{IsOnce, without_absent, most_recent_once, most_recent-one_more, misses-one_more}
-use Rattle.gier_places.specs.Held.{Held, moved_first, latest_words}
-use Rattle.gier_places.proofs.Moving.{moved, length-moved}
+use Rattle.gier_places.specs.HeldTracks.{HeldTrack, moved_first, latest_words}
+use Rattle.gier_places.proofs.MoveToFront.{moved, length-moved}
 use Rattle.gier_places.specs.Contents.{Contents, tracks_of, is_held, StandsFor, Agrees, Refers, LogsReads}
 
-abbrev pub blank : Held
+abbrev pub blank : HeldTrack
 blank = record { track = 0; words = [] }
 
 -- finding a track
@@ -22,26 +22,26 @@ blank = record { track = 0; words = [] }
 equal : (a b : ℕ) → (a == b) ≡ true → a ≡ b
 equal a b same = grind (arith, nat_tests)
 
-pub found_in : (track : ℕ) (held : List Held) (place : ℕ) → Some place ≡ position (λ (h : Held). h.track == track) held → (place < length held) × ((get_or held place blank).track ≡ track)
+pub found_in : (track : ℕ) (held : List HeldTrack) (place : ℕ) → Some place ≡ position (λ (h : HeldTrack). h.track == track) held → (place < length held) × ((get_or held place blank).track ≡ track)
 found_in track held place found =
-    let there = position-Some (λ (h : Held). h.track == track) held place blank (sym found) in
+    let there = position-Some (λ (h : HeldTrack). h.track == track) held place blank (sym found) in
     (there.0, equal (get_or held place blank).track track there.1)
 
 is_false : (b : Bool) (n : ℕ) → None ≡ cond b (Some n) None → b ≡ false
 is_false true n none = cc
 is_false false n none = refl
 
-absent_by : (track : ℕ) (held : List Held) → nat_lt (position_or_len (λ (h : Held). h.track == track) held) (length held) ≡ false → is_among track (tracks_of held) ≡ false
+absent_by : (track : ℕ) (held : List HeldTrack) → nat_lt (position_or_len (λ (h : HeldTrack). h.track == track) held) (length held) ≡ false → is_among track (tracks_of held) ≡ false
 absent_by track [] past = refl
 absent_by track (h ∷ held) past = elim (eqb_tells h.track track) [
   | inl same ↦ absurd (grind (arith, nat_tests, rw same.0 at past))
   | inr other ↦ rw other.0 (absent_by track held (grind (arith, nat_tests, rw other.0 at past)))
 ]
 
-pub absent_in : (track : ℕ) (held : List Held) → None ≡ position (λ (h : Held). h.track == track) held → is_among track (tracks_of held) ≡ false
+pub absent_in : (track : ℕ) (held : List HeldTrack) → None ≡ position (λ (h : HeldTrack). h.track == track) held → is_among track (tracks_of held) ≡ false
 absent_in track held none = absent_by track held (is_false _ _ none)
 
-pub present : (track : ℕ) (held : List Held) (place : ℕ) → place < length held → (get_or held place blank).track ≡ track → is_among track (tracks_of held) ≡ true
+pub present : (track : ℕ) (held : List HeldTrack) (place : ℕ) → place < length held → (get_or held place blank).track ≡ track → is_among track (tracks_of held) ≡ true
 present track [] place lt is = absurd (omega arith)
 present track (h ∷ held) zero lt is = elim (eqb_tells h.track track) [
   | inl same ↦ rw same.0 refl
@@ -52,7 +52,7 @@ present track (h ∷ held) (suc place) lt is = elim (eqb_tells h.track track) [
   | inr other ↦ rw other.0 (present track held place (omega arith) is)
 ]
 
-pub tracks_of-remove : (track : ℕ) (held : List Held) (place : ℕ) → IsOnce (tracks_of held) → place < length held → (get_or held place blank).track ≡ track → tracks_of (remove held place) ≡ without track (tracks_of held)
+pub tracks_of-remove : (track : ℕ) (held : List HeldTrack) (place : ℕ) → IsOnce (tracks_of held) → place < length held → (get_or held place blank).track ≡ track → tracks_of (remove held place) ≡ without track (tracks_of held)
 tracks_of-remove track [] place once lt is = absurd (omega arith)
 tracks_of-remove track (h ∷ held) zero once lt is = elim (eqb_tells h.track track) [
   | inl same ↦
@@ -98,7 +98,7 @@ pub Refers-held : (old new : Contents) (track place : ℕ) → new.places ≡ ol
 Refers-held old new track place places transfers held fits lt is =
     let now : new.held ≡ get_or old.held place blank ∷ remove old.held place = held ∙ moved blank old.held place lt in
     let among : is_held old track ≡ true = present track old.held place lt is in
-    let long : length (tracks_of new.held) ≤ old.places = omega (arith, length-map new.held (λ (h : Held). h.track), ap length held, length-moved old.held place) in
+    let long : length (tracks_of new.held) ≤ old.places = omega (arith, length-map new.held (λ (h : HeldTrack). h.track), ap length held, length-moved old.held place) in
     record {
       places = places;
       latest = rw now (ap Some is);
@@ -117,7 +117,7 @@ Refers-held old new track place places transfers held fits lt is =
 
 -- a track that was read
 
-first_taken : (n : ℕ) (h : Held) (held : List Held) → 1 ≤ n → slice_get (tracks_of (take n (h ∷ held))) 0 ≡ Some h.track
+first_taken : (n : ℕ) (h : HeldTrack) (held : List HeldTrack) → 1 ≤ n → slice_get (tracks_of (take n (h ∷ held))) 0 ≡ Some h.track
 first_taken zero h held some = absurd (omega arith)
 first_taken (suc n) h held some = refl
 
@@ -129,7 +129,7 @@ Refers-read old new track words places transfers held some absent = record {
   stands = λ refs stands.
       let others : without track (tracks_of old.held) ≡ tracks_of old.held = without_absent track (tracks_of old.held) absent in
       let tracks : tracks_of new.held ≡ take old.places (track ∷ tracks_of old.held) =
-      ap tracks_of held ∙ sym (take-map (λ (h : Held). h.track) old.places (record { track = track; words = words } ∷ old.held)) in
+      ap tracks_of held ∙ sym (take-map (λ (h : HeldTrack). h.track) old.places (record { track = track; words = words } ∷ old.held)) in
       let more : misses (refs ++ track ∷ []) old.places ≡ misses refs old.places ++ track ∷ [] = misses-absent refs old.places track (among_stands false old refs track stands absent) in
       record {
         tracks = rw places (tracks ∙ sym (recent_stands old refs track stands ∙ ap (λ (ts : List ℕ). take old.places (track ∷ ts)) others));
@@ -139,28 +139,28 @@ Refers-read old new track words places transfers held some absent = record {
 
 -- the words
 
-all_cons : (P : Held → Type 0) (h : Held) (held : List Held) → P h → All P held → All P (h ∷ held)
+all_cons : (P : HeldTrack → Type 0) (h : HeldTrack) (held : List HeldTrack) → P h → All P held → All P (h ∷ held)
 all_cons P h held first others zero d lt = first
 all_cons P h held first others (suc k) d lt = others k d (omega arith)
 
-all_remove : (P : Held → Type 0) (held : List Held) (place : ℕ) → All P held → All P (remove held place)
+all_remove : (P : HeldTrack → Type 0) (held : List HeldTrack) (place : ℕ) → All P held → All P (remove held place)
 all_remove P held place all = All-append P _ _ (All-take P place held all) (All-drop P (suc place) held all)
 
-pub Agrees-held : (tracks : Option (List (List ℕ))) (held new : List Held) (place : ℕ) → new ≡ moved_first held place → place < length held → Agrees tracks held → Agrees tracks new
+pub Agrees-held : (tracks : Option (List (List ℕ))) (held new : List HeldTrack) (place : ℕ) → new ≡ moved_first held place → place < length held → Agrees tracks held → Agrees tracks new
 Agrees-held None held new place is lt agrees = tt
 Agrees-held (Some tracks) held new place is lt agrees =
-    rw (is, moved blank held place lt) (all_cons (λ (h : Held). slice_get tracks h.track ≡ Some h.words) (get_or held place blank) (remove held place) (agrees place blank lt) (all_remove (λ (h : Held). slice_get tracks h.track ≡ Some h.words) held place agrees))
+    rw (is, moved blank held place lt) (all_cons (λ (h : HeldTrack). slice_get tracks h.track ≡ Some h.words) (get_or held place blank) (remove held place) (agrees place blank lt) (all_remove (λ (h : HeldTrack). slice_get tracks h.track ≡ Some h.words) held place agrees))
 
-pub given-held : (tracks : Option (List (List ℕ))) (held new : List Held) (track place : ℕ) → new ≡ moved_first held place → place < length held → (get_or held place blank).track ≡ track → Agrees tracks held → GivesTrack tracks track (latest_words new)
+pub given-held : (tracks : Option (List (List ℕ))) (held new : List HeldTrack) (track place : ℕ) → new ≡ moved_first held place → place < length held → (get_or held place blank).track ≡ track → Agrees tracks held → GivesTrack tracks track (latest_words new)
 given-held None held new track place is lt same agrees = tt
 given-held (Some tracks) held new track place is lt same agrees = rw (is, moved blank held place lt, ← same) (agrees place blank lt)
 
-pub Agrees-read : (tracks : Option (List (List ℕ))) (held : List Held) (places track : ℕ) (words : List ℕ) → GivesTrack tracks track words → Agrees tracks held → Agrees tracks (take places (record { track = track; words = words } ∷ held))
+pub Agrees-read : (tracks : Option (List (List ℕ))) (held : List HeldTrack) (places track : ℕ) (words : List ℕ) → GivesTrack tracks track words → Agrees tracks held → Agrees tracks (take places (record { track = track; words = words } ∷ held))
 Agrees-read None held places track words given agrees = tt
 Agrees-read (Some tracks) held places track words given agrees =
-    All-take (λ (h : Held). slice_get tracks h.track ≡ Some h.words) places _ (all_cons (λ (h : Held). slice_get tracks h.track ≡ Some h.words) (record { track = track; words = words }) held given agrees)
+    All-take (λ (h : HeldTrack). slice_get tracks h.track ≡ Some h.words) places _ (all_cons (λ (h : HeldTrack). slice_get tracks h.track ≡ Some h.words) (record { track = track; words = words }) held given agrees)
 
-pub latest_words-take : (places : ℕ) (h : Held) (held : List Held) → 1 ≤ places → latest_words (take places (h ∷ held)) ≡ h.words
+pub latest_words-take : (places : ℕ) (h : HeldTrack) (held : List HeldTrack) → 1 ≤ places → latest_words (take places (h ∷ held)) ≡ h.words
 latest_words-take zero h held some = absurd (omega arith)
 latest_words-take (suc n) h held some = refl
 

@@ -3,16 +3,16 @@ use Rattle.std.specs.Prelude.{◌≡◌, ◌+◌, ℕ, List, [], ◌∷◌, ◌+
 use Rattle.gier_drum.specs.declared.drum.Entry.{Entry}
 use Rattle.gier_drum.specs.declared.drum.Entry.TheVariants.{Read}
 use Rattle.gier_order.specs.Misses.{is_among, misses, most_recent}
-use Rattle.gier_places.specs.Held.{Held}
+use Rattle.gier_places.specs.HeldTracks.{HeldTrack}
 
 -- how many places there are, the tracks in them and their words, the one referred to last first, and how many were read
 pub record Contents : Type 0 where
   pub places : ℕ
-  pub held : List Held
+  pub held : List HeldTrack
   pub transfers : ℕ
 
-abbrev pub tracks_of : List Held → List ℕ
-tracks_of held = map (λ (h : Held). h.track) held
+abbrev pub tracks_of : List HeldTrack → List ℕ
+tracks_of held = map (λ (h : HeldTrack). h.track) held
 
 abbrev pub is_held : Contents → ℕ → Bool
 is_held contents track = is_among track (tracks_of contents.held)
@@ -24,9 +24,9 @@ pub record StandsFor (contents : Contents) (refs : List ℕ) : Type 0 where
   pub transfers : contents.transfers ≡ length (misses refs contents.places)
 
 -- each track that is held has the words that the drum has there, where the drum tells that
-abbrev pub Agrees : Option (List (List ℕ)) → List Held → Type 0
+abbrev pub Agrees : Option (List (List ℕ)) → List HeldTrack → Type 0
 Agrees None held = Unit {0}
-Agrees (Some tracks) held = All (λ (h : Held). slice_get tracks h.track ≡ Some h.words) held
+Agrees (Some tracks) held = All (λ (h : HeldTrack). slice_get tracks h.track ≡ Some h.words) held
 
 -- one reference that succeeded
 pub record Refers (old : Contents) (track : ℕ) (new : Contents) : Type 0 where

@@ -1,3 +1,3 @@
-pub mod Held
+pub mod HeldTracks
 pub mod Contents
-pub mod Kept
+pub mod SlotInvariant

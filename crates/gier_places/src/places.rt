@@ -5,7 +5,7 @@ ghost use Rattle.gier_drum.specs.Drum.{GivesTrack, Logs};
 ghost use Rattle.gier_drum.specs.declared.drum.Entry.{Entry};
 ghost use Rattle.gier_drum.specs.declared.drum.Entry.TheVariants.{Read};
 ghost use Rattle.gier_order.specs.Misses.{misses};
-ghost use Rattle.gier_places.specs.Held.{moved_first};
+ghost use Rattle.gier_places.specs.HeldTracks.{moved_first};
 
 use crate::slots::{Slot, move_first, place_in, put_first, replace_last};
 use gier_drum::Drum;
@@ -26,8 +26,8 @@ pub struct Places {
 impl Model for Places {
     ghost use Rattle.std.specs.Prelude.{vec_capacity};
     ghost use Rattle.gier_places.specs.Contents.{Contents};
-    ghost use Rattle.gier_places.specs.Held.{held_in};
-    ghost use Rattle.gier_places.specs.Kept.{IsKept};
+    ghost use Rattle.gier_places.specs.HeldTracks.{held_in};
+    ghost use Rattle.gier_places.specs.SlotInvariant.{IsKept};
 
     ghost Value = { Contents };
 
@@ -43,7 +43,7 @@ impl Places {
     ghost use denote.Follow.{follows_so};
     ghost use Rattle.gier_places.specs.contracts.places.Places.{the_row};
     ghost use Rattle.gier_places.specs.Contents.{StandsFor, AfterRefer, Agrees, LogsReads, is_held};
-    ghost use Rattle.gier_places.specs.Held.{latest_words};
+    ghost use Rattle.gier_places.specs.HeldTracks.{latest_words};
 
     /// So many empty places, from 1 to 64.
     pub fn open(alloc: Global, places: u8) -> Result<Places, NoMemory>

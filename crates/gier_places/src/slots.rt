@@ -1,7 +1,7 @@
 // Slots: which track each place holds, in the order of the last references, and where its words are.
 ghost use Rattle.std.specs.Prelude.{◌≡◌, ◌==◌, ◌+◌, ◌<◌, ◌≤◌, ◌^◌, ◌∷◌, ℕ, List, All, length, take, position, vec_capacity};
-ghost use Rattle.gier_places.specs.Held.{held_in, moved_first};
-ghost use Rattle.gier_places.specs.Kept.{IsPlaced};
+ghost use Rattle.gier_places.specs.HeldTracks.{held_in, moved_first};
+ghost use Rattle.gier_places.specs.SlotInvariant.{IsPlaced};
 
 /// A track, and which of the lists of words are its words.
 #[derive(Clone, Copy)]

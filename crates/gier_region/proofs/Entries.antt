@@ -4,40 +4,40 @@ use Rattle.std.proofs.lemmas.Bool.{cases_lt}
 use Rattle.std.proofs.lemmas.List.{ext_get_or, take_all, take-append-le, set-append_left, length-take, get_or-take, get_or-drop}
 use Rattle.std.proofs.Math.Seq.{set-append_seam}
 use Rattle.gier_region.specs.Contents.{ChangesOnly}
-use Rattle.gier_region.specs.Packing.{Extent, words_at, entry, entries, listed}
+use Rattle.gier_region.specs.Packing.{Extent, words_at, entry, entries, tabulated}
 
-pub length-listed : {A : Type 0} (f : ℕ → A) (n : ℕ) → length (listed f n) ≡ n
-length-listed f zero = refl
-length-listed f (suc n) = omega (arith, length-append (listed f n) (f n ∷ []), length-listed f n)
+pub length-tabulated : {A : Type 0} (f : ℕ → A) (n : ℕ) → length (tabulated f n) ≡ n
+length-tabulated f zero = refl
+length-tabulated f (suc n) = omega (arith, length-append (tabulated f n) (f n ∷ []), length-tabulated f n)
 
-pub listed-same : {A : Type 0} (f g : ℕ → A) (n : ℕ) → ((k : ℕ) → k < n → f k ≡ g k) → listed f n ≡ listed g n
-listed-same f g zero same = refl
-listed-same f g (suc n) same = rw (listed-same f g n (λ k lt. same k (omega arith)), same n (omega arith)) refl
+pub tabulated-same : {A : Type 0} (f g : ℕ → A) (n : ℕ) → ((k : ℕ) → k < n → f k ≡ g k) → tabulated f n ≡ tabulated g n
+tabulated-same f g zero same = refl
+tabulated-same f g (suc n) same = rw (tabulated-same f g n (λ k lt. same k (omega arith)), same n (omega arith)) refl
 
-pub take-listed : {A : Type 0} (f : ℕ → A) (m n : ℕ) → m ≤ n → take m (listed f n) ≡ listed f m
-take-listed f m zero le = let none : m ≡ 0 = omega arith in rw none refl
-take-listed f m (suc n) le =
+pub take-tabulated : {A : Type 0} (f : ℕ → A) (m n : ℕ) → m ≤ n → take m (tabulated f n) ≡ tabulated f m
+take-tabulated f m zero le = let none : m ≡ 0 = omega arith in rw none refl
+take-tabulated f m (suc n) le =
     elim (cases_lt m (suc n)) [
-      | inl lt ↦ take-append-le m (listed f n) (f n ∷ []) (omega (arith, length-listed f n)) ∙ take-listed f m n (omega arith)
-      | inr ge ↦ let all : m ≡ suc n = omega arith in rw all (take_all (suc n) (listed f (suc n)) (omega (arith, length-listed f (suc n))))
+      | inl lt ↦ take-append-le m (tabulated f n) (f n ∷ []) (omega (arith, length-tabulated f n)) ∙ take-tabulated f m n (omega arith)
+      | inr ge ↦ let all : m ≡ suc n = omega arith in rw all (take_all (suc n) (tabulated f (suc n)) (omega (arith, length-tabulated f (suc n))))
     ]
 
 last_set : {A : Type 0} (xs : List A) (x y : A) (n : ℕ) → length xs ≡ n → set (xs ++ x ∷ []) n y ≡ xs ++ y ∷ []
 last_set xs x y n is = rw (← is) (set-append_seam xs x [] y)
 
 -- two functions that differ at one place at most
-pub listed-set : {A : Type 0} (f g : ℕ → A) (n at : ℕ) → at < n → ((k : ℕ) → k < n → k ≢ at → g k ≡ f k) → listed g n ≡ set (listed f n) at (g at)
-listed-set f g zero at lt same = absurd (omega arith)
-listed-set f g (suc n) at lt same =
+pub tabulated-set : {A : Type 0} (f g : ℕ → A) (n at : ℕ) → at < n → ((k : ℕ) → k < n → k ≢ at → g k ≡ f k) → tabulated g n ≡ set (tabulated f n) at (g at)
+tabulated-set f g zero at lt same = absurd (omega arith)
+tabulated-set f g (suc n) at lt same =
     elim (cases_lt at n) [
       | inl below ↦
           let last : g n ≡ f n = same n (omega arith) (omega arith) in
-          let front : listed g n ≡ set (listed f n) at (g at) = listed-set f g n at below (λ k lt ne. same k (omega arith) ne) in
-          rw (front, last) (sym (set-append_left (listed f n) (f n ∷ []) at (g at) (omega (arith, length-listed f n))))
+          let front : tabulated g n ≡ set (tabulated f n) at (g at) = tabulated-set f g n at below (λ k lt ne. same k (omega arith) ne) in
+          rw (front, last) (sym (set-append_left (tabulated f n) (f n ∷ []) at (g at) (omega (arith, length-tabulated f n))))
       | inr above ↦
           let is : at ≡ n = omega arith in
-          let front : listed g n ≡ listed f n = listed-same g f n (λ k lt. same k (omega arith) (omega arith)) in
-          rw (front, is) (sym (last_set (listed f n) (f n) (g n) n (length-listed f n)))
+          let front : tabulated g n ≡ tabulated f n = tabulated-same g f n (λ k lt. same k (omega arith) (omega arith)) in
+          rw (front, is) (sym (last_set (tabulated f n) (f n) (g n) n (length-tabulated f n)))
     ]
 
 -- a word of the words from a place on
@@ -68,7 +68,7 @@ row_below k at width lt = grind arith
 pub entries-kept : {A : Type 0} (value_of : List ℕ → Option A) (width : ℕ) (table : Extent) (old new : List ℕ) (place n : ℕ) → ChangesOnly place n old new
     → (table.base + table.len * width ≤ place) ⊎ (place + n ≤ table.base) → entries value_of width table new ≡ entries value_of width table old
 entries-kept value_of width table old new place n only apart =
-    listed-same (entry value_of width table new) (entry value_of width table old) table.len (λ k lt. entry-kept value_of width table old new place n k only (elim apart [
+    tabulated-same (entry value_of width table new) (entry value_of width table old) table.len (λ k lt. entry-kept value_of width table old new place n k only (elim apart [
       | inl before ↦ inl (omega (arith, row_below k table.len width lt))
       | inr behind ↦ inr (omega arith)
     ]))
@@ -92,11 +92,11 @@ pub entries-set : {A : Type 0} (value_of : List ℕ → Option A) (width : ℕ) 
 entries-set value_of width table old new value at lt only is =
     let f : ℕ → Option _ = entry value_of width table old in
     let g : ℕ → Option _ = entry value_of width table new in
-    rw (← is) (listed-set f g table.len at lt (λ k below ne. entry-kept value_of width table old new (table.base + at * width) width k only (other_row k at width table.base ne)))
+    rw (← is) (tabulated-set f g table.len at lt (λ k below ne. entry-kept value_of width table old new (table.base + at * width) width k only (other_row k at width table.base ne)))
 
 -- in two regions that have the same words at a table's places it holds the same
 pub entries-same : {A : Type 0} (value_of : List ℕ → Option A) (width : ℕ) (table : Extent) (a b : List ℕ) → length a ≡ length b
     → ((k : ℕ) → table.base ≤ k → k < table.base + table.len * width → get_or a k 0 ≡ get_or b k 0) → entries value_of width table a ≡ entries value_of width table b
 entries-same value_of width table a b long same =
-    listed-same (entry value_of width table a) (entry value_of width table b) table.len (λ k lt.
+    tabulated-same (entry value_of width table a) (entry value_of width table b) table.len (λ k lt.
     ap value_of (words_at-same a b (table.base + k * width) width long (λ j from below. same j (omega arith) (omega (arith, row_below k table.len width lt)))))

@@ -21,8 +21,8 @@ abbrev pub with_word : Contents → ℕ → ℕ → Contents
 with_word r place word = record r { words = slice_set r.words place word }
 
 -- a list of words filled up with zeros
-abbrev pub padded : List ℕ → ℕ → List ℕ
-padded words size = words ++ replicate (size - length words) 0
+abbrev pub zero_filled : List ℕ → ℕ → List ℕ
+zero_filled words size = words ++ replicate (size - length words) 0
 
 -- only the n words from a place on may differ, and as many words are there
 pub record ChangesOnly (place n : ℕ) (old new : List ℕ) : Type 0 where

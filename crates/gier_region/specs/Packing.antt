@@ -20,10 +20,10 @@ abbrev pub entry : {A : Type 0} → (List ℕ → Option A) → ℕ → Extent �
 entry value_of width table words at = value_of (words_at words (table.base + at * width) width)
 
 -- the values of a function at the numbers below n
-abbrev pub listed : {A : Type 0} → (ℕ → A) → ℕ → List A
-listed f zero = []
-listed f (suc n) = listed f n ++ f n ∷ []
+abbrev pub tabulated : {A : Type 0} → (ℕ → A) → ℕ → List A
+tabulated f zero = []
+tabulated f (suc n) = tabulated f n ++ f n ∷ []
 
 -- all entries, in order
 abbrev pub entries : {A : Type 0} → (List ℕ → Option A) → ℕ → Extent → List ℕ → List (Option A)
-entries value_of width table words = listed (entry value_of width table words) table.len
+entries value_of width table words = tabulated (entry value_of width table words) table.len

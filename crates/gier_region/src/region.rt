@@ -24,11 +24,11 @@ pub struct Region {
 
 impl Model for Region {
     ghost use Rattle.std.specs.Prelude.{◌<◌, ◌≤◌, ◌^◌, ℕ, length, slice_index, vec_capacity};
-    ghost use Rattle.gier_region.specs.Contents.{Contents, padded};
+    ghost use Rattle.gier_region.specs.Contents.{Contents, zero_filled};
 
     ghost Value = { Contents };
 
-    ghost view = { λ r. record { words = padded r.touched.items r.size; used = r.used } };
+    ghost view = { λ r. record { words = zero_filled r.touched.items r.size; used = r.used } };
 
     ghost invariant = { λ r. (r.used ≤ r.size) × (length r.touched.items ≤ r.size) × (r.size ≤ vec_capacity r.touched) × ((k : ℕ) → slice_index r.touched.items k < 2 ^ 40) };
 }

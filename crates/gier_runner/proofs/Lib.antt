@@ -1,9 +1,9 @@
 pub mod Numbers
-pub mod Obeying
-pub mod Drops
+pub mod OrdersTogether
+pub mod DataTaken
 pub mod Moves
-pub mod Turns
+pub mod RunSteps
 pub mod Words
-pub mod Following
-pub mod Wholes
+pub mod WordsOfRun
+pub mod WholeRuns
 pub mod Live

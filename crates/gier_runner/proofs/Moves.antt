@@ -4,11 +4,11 @@ use Rattle.std.proofs.Common.{arith, refl, ap, sym, subst, ◌∙◌}
 use Rattle.std.proofs.lemmas.List.{append_assoc, append-nil, length-append}
 use Rattle.gier_order.specs.Flat.Row.{Regs, Step, On, Ends, Odd, Row}
 use Rattle.gier_order.specs.Flat.Rows.{row}
-use Rattle.gier_order.specs.Flat.Run.{Move, More, Last, Over, then_on, exec, State, Final, with_row, moved, one, enough}
+use Rattle.gier_order.specs.Flat.Run.{Move, More, Last, Over, then_on, exec, State, Final, with_row, next_state, one, enough}
 use Rattle.gier_order.proofs.Flat.Ends.{run_ends}
 use Rattle.gier_exec.specs.Turning.{left_by, StartsWith, IsCut}
 use Rattle.gier_runner.specs.FlatRun.{EndsWith, IsPart}
-use Rattle.gier_runner.proofs.Drops.{Drops, row_drops}
+use Rattle.gier_runner.proofs.DataTaken.{Drops, row_drops}
 
 -- Lists that begin and end alike
 
@@ -65,7 +65,7 @@ module _ (code : List ℕ) (size : ℕ) where
   after (More s) = s
   after (Last final) = final.state
 
-  moved_grows : (s : State) (row : Row) (step : Step) → Drops s.regs step → Grows s (after (moved code s row step))
+  moved_grows : (s : State) (row : Row) (step : Step) → Drops s.regs step → Grows s (after (next_state code s row step))
   moved_grows s row (On m) h = with_row_grows s row m h
   moved_grows s row (Ends ending m) h = with_row_grows s row m h
   moved_grows s row Odd h = with_row_grows s row s.regs ([], refl)
@@ -100,7 +100,7 @@ module _ (code : List ℕ) (size : ℕ) where
   cut_by : (t : State) (row : Row) (step : Step) (read put taken rest : List ℕ) → StartsWith read row.refs → StartsWith put row.printed
       → Drops t.regs step
       → length taken ≤ length t.regs.input - length (left_by t.regs step) → t.regs.input ≡ taken ++ rest
-      → IsPart (t.refs ++ read) (t.printed ++ put) rest (after (moved code t row step)).refs (after (moved code t row step)).printed (after (moved code t row step)).regs.input
+      → IsPart (t.refs ++ read) (t.printed ++ put) rest (after (next_state code t row step)).refs (after (next_state code t row step)).printed (after (next_state code t row step)).regs.input
   cut_by t row (On m) read put taken rest refs printed drops few is = part_by t row m read put taken rest refs printed drops few is
   cut_by t row (Ends ending m) read put taken rest refs printed drops few is = part_by t row m read put taken rest refs printed drops few is
   cut_by t row Odd read put taken rest refs printed drops few is = part_by t row t.regs read put taken rest refs printed ([], refl) few is

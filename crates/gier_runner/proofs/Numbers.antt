@@ -1,10 +1,10 @@
 -- That the counts of a run stay within their numbers: each order adds at most a bound, and there are at most so many orders.
 use Rattle.std.proofs.Common.{◌≡◌, ◌<◌, ◌≤◌, ◌+◌, ◌*◌, ◌^◌, ℕ, arith}
 use Rattle.std.proofs.lemmas.Nat.{mul-le}
-use Rattle.gier_order.specs.Counts.{Counts, taken}
+use Rattle.gier_order.specs.Counts.{Counts, references_taken}
 use Rattle.gier_places.specs.Contents.{Contents}
 use Rattle.gier_exec.specs.Registers.{Registers, begun_at, measure}
-use Rattle.gier_runner.specs.Running.{Counted}
+use Rattle.gier_runner.specs.RunInvariant.{Counted}
 use Rattle.gier_runner.specs.State.{State, Begun}
 use Rattle.gier_runner.specs.declared.settings.Settings.{Settings}
 
@@ -15,9 +15,9 @@ more a b c n m k most falls adds =
     grind (arith, step)
 
 pub next_counts : (words : ℕ) (old new : Registers) (recent after : Counts) (places later : Contents) → Counted words old recent places → measure words new < measure words old
-    → taken after ≤ taken recent + 2 * words + 2 → later.transfers ≤ places.transfers + 2 * words + 2 → Counted words new after later
+    → references_taken after ≤ references_taken recent + 2 * words + 2 → later.transfers ≤ places.transfers + 2 * words + 2 → Counted words new after later
 next_counts words old new recent after places later so falls references transfers = record {
-  references = more (taken recent) (taken after) (2 ^ 118) (measure words old) (measure words new) (2 * words + 2) so.references falls (omega arith);
+  references = more (references_taken recent) (references_taken after) (2 ^ 118) (measure words old) (measure words new) (2 * words + 2) so.references falls (omega arith);
   transfers = more places.transfers later.transfers (2 ^ 118) (measure words old) (measure words new) (2 * words + 2) so.transfers falls (omega arith);
 }
 
@@ -27,7 +27,7 @@ first_most words start steps within few small =
     let both : measure words (begun_at start steps) * (2 * words + 2) ≤ 2 ^ 91 * 2 ^ 26 = mul-le (measure words (begun_at start steps)) (2 * words + 2) (2 ^ 91) (2 ^ 26) (omega (arith, turns)) (omega arith) in
     omega (arith, both)
 
-pub first_counts : (words start steps : ℕ) (recent : Counts) (places : Contents) → start < words → words ≤ 2 ^ 24 → steps < 2 ^ 64 → taken recent ≡ 0 → places.transfers ≡ 0
+pub first_counts : (words start steps : ℕ) (recent : Counts) (places : Contents) → start < words → words ≤ 2 ^ 24 → steps < 2 ^ 64 → references_taken recent ≡ 0 → places.transfers ≡ 0
     → Counted words (begun_at start steps) recent places
 first_counts words start steps recent places within few small none unread =
     let most : measure words (begun_at start steps) * (2 * words + 2) ≤ 2 ^ 118 = first_most words start steps within few small in

@@ -9,7 +9,7 @@ use Rattle.gier_order.specs.declared.object.Object.{Object}
 use Rattle.gier_order.specs.Flat.Row.{Regs, Ending as FlatEnding, Ended as HasEnded, Alarmed, NoSteps, Spoilt as IsSpoilt}
 use Rattle.gier_order.specs.Flat.Run.{State as FlatState, Final, Over, exec, one, Report, report_of}
 use Rattle.gier_places.specs.Contents.{LogsReads, StandsFor as PlacesFor}
-use Rattle.gier_best.specs.Traced.{HasNoted}
+use Rattle.gier_best.specs.TraceModel.{HasNoted}
 use Rattle.gier_library.specs.Data.{Stand}
 use Rattle.gier_exec.specs.Rows.{regs_of}
 use Rattle.gier_exec.specs.References.{tracks_of, notes_of}

@@ -1,5 +1,5 @@
 pub mod Endings
 pub mod State
-pub mod Running
+pub mod RunInvariant
 pub mod FlatRun
 pub mod Live

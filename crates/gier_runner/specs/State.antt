@@ -2,8 +2,8 @@
 use Rattle.std.specs.Prelude.{◌≡◌, ◌-◌, ◌≤◌, ℕ, [], length}
 use Rattle.gier_frames.specs.State.{State as Frames, fresh as no_frames}
 use Rattle.gier_places.specs.Contents.{Contents, StandsFor as Places}
-use Rattle.gier_order.specs.Counts.{Counts, StandsFor as Counted, taken}
-use Rattle.gier_best.specs.Traced.{Traced, HasNoted, AreTracks}
+use Rattle.gier_order.specs.Counts.{Counts, StandsFor as Counted, references_taken}
+use Rattle.gier_best.specs.TraceModel.{Traced, HasNoted, AreTracks}
 use Rattle.gier_exec.specs.Registers.{Registers, begun_at}
 use Rattle.gier_runner.specs.declared.settings.Settings.{Settings}
 use Rattle.gier_runner.specs.declared.settings.Report.{Report}
@@ -35,6 +35,6 @@ pub record Begun (given : Settings) (start : ℕ) (s : State) : Type 0 where
   pub empty : Places s.places []
   pub unread : s.places.transfers ≡ 0
   pub counted : Counted s.recent []
-  pub none : taken s.recent ≡ 0
+  pub none : references_taken s.recent ≡ 0
   pub noted : HasNoted s.trace []
   pub tracks : AreTracks s.trace

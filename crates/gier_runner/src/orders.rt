@@ -4,13 +4,13 @@ ghost use Rattle.gier_word.specs.Cause.{HasRisen};
 ghost use Rattle.gier_places.specs.Contents.{Agrees};
 ghost use Rattle.gier_io.specs.Device.{Puts};
 ghost use Rattle.gier_library.specs.Data.{Takes};
-ghost use Rattle.gier_library.specs.Seen.{source_of, ended, stand_of};
+ghost use Rattle.gier_library.specs.DataView.{source_of, has_ended, stand_of};
 ghost use Rattle.gier_exec.specs.Reading.{tracks_for, seen};
 ghost use Rattle.gier_exec.specs.Rows.{regs_of, code_in};
 ghost use Rattle.gier_exec.specs.References.{Refers};
 ghost use Rattle.gier_exec.specs.Turning.{IsRest};
 ghost use Rattle.gier_runner.specs.FlatRun.{RunsTo};
-ghost use Rattle.gier_runner.specs.Running.{Counted, KeepsSizes, OnlyReads, devices, parts};
+ghost use Rattle.gier_runner.specs.RunInvariant.{Counted, KeepsSizes, OnlyReads, devices, parts};
 ghost use Rattle.gier_runner.specs.declared.ending.Ending.TheVariants.{Read, Write, Drum as DrumFailed};
 
 use crate::Ending;
@@ -25,7 +25,7 @@ use gier_order::{Object, Recent};
 use gier_places::Places;
 
 /// Obeys the orders from the machine's place on, and leaves the place at the one that ended the run.
-#[tactic(auto, using(crate::proofs::Numbers::next_counts, crate::proofs::Obeying::reads_begin, crate::proofs::Obeying::reads_more, crate::proofs::Obeying::sizes_begin, crate::proofs::Obeying::sizes_more, crate::proofs::Obeying::risen_later))]
+#[tactic(auto, using(crate::proofs::Numbers::next_counts, crate::proofs::OrdersTogether::reads_begin, crate::proofs::OrdersTogether::reads_more, crate::proofs::OrdersTogether::sizes_begin, crate::proofs::OrdersTogether::sizes_more, crate::proofs::OrdersTogether::risen_later))]
 pub(crate) fn obey<D: Drum, S: Source, K: Sink>(
     m: &mut Machine,
     frames: &mut Frames,
@@ -47,7 +47,7 @@ pub(crate) fn obey<D: Drum, S: Source, K: Sink>(
         × Refers object.now read (seen D.room D.tracks D.journal D.faults drum.old places.old recent.old trace.old)
         (seen D.room D.tracks D.journal D.faults drum.new places.new recent.new trace.new)
         × Puts (K.holds out.old) put (K.holds out.new) × Takes (stand_of S.left input.old) taken (stand_of S.left input.new)
-        × ((rest : List ℕ) → IsRest (ended input.new) rest
+        × ((rest : List ℕ) → IsRest (has_ended input.new) rest
         → RunsTo (code_in tracks object.now) (length frames.old.words) (regs_of m.old frames.old (taken ++ rest))
         (regs_of m.new frames.new rest) read put result) }
     ensures sizes { KeepsSizes object.now.words (parts m.old frames.old places.old trace.old)

@@ -1,10 +1,10 @@
 -- Programs with faults of scopes and without, each told by its bytes. The faults are those that an independent model lists.
 use Rattle.std.specs.Prelude.{◌≡◌, ◌++◌, ℕ, List, [], ◌∷◌, codes, Option, Some}
 use Rattle.std.specs.Option.{option_map}
-use Rattle.gier_symbol.specs.Assembled.{assembled}
+use Rattle.gier_symbol.specs.Assembly.{assembly}
 use Rattle.gier_symbol.specs.Listing.{FaultAt}
 use Rattle.gier_symbol.specs.Reading.{symbols_of}
-use Rattle.gier_tree.specs.Structure.{written}
+use Rattle.gier_tree.specs.Structure.{program_spelled}
 use Rattle.gier_scope.specs.Faults.{ScopeFault, DeclaredTwice, NotDeclared, LocalInBound, NotFormal, SpecifiedTwice, NotSpecified, ScopeFaults}
 use Rattle.gier_scope.specs.ScopeFaults.{scope_faults}
 
@@ -13,7 +13,7 @@ fault kind line = record { kind = kind; line = line }
 
 -- the faults of scopes of the program that the bytes are, where they are one
 abbrev pub faults_in : List ℕ → Option ScopeFaults
-faults_in bytes = option_map scope_faults (written (assembled (symbols_of bytes).symbols).symbols)
+faults_in bytes = option_map scope_faults (program_spelled (assembly (symbols_of bytes).symbols).symbols)
 
 -- each declaring place but the first one, in a list of identifiers and across declarations
 abbrev pub twice_variable : List ℕ

@@ -8,5 +8,5 @@ pub mod Bytes
 pub mod Spans
 pub mod Reading
 pub mod Tape
-pub mod Assembled
+pub mod Assembly
 pub mod ReadExamples

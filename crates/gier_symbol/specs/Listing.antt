@@ -19,5 +19,5 @@ pub record Listing : Type 0 where
   pub faults : List (FaultAt SymbolFault)
 
 -- one listing behind another
-abbrev pub joined : Listing → Listing → Listing
-joined a b = record { symbols = a.symbols ++ b.symbols; faults = a.faults ++ b.faults }
+abbrev pub listings_joined : Listing → Listing → Listing
+listings_joined a b = record { symbols = a.symbols ++ b.symbols; faults = a.faults ++ b.faults }

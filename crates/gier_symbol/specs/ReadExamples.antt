@@ -1,7 +1,7 @@
 -- Programs' bytes and what is read of them: an example for each rule.
 use Rattle.std.specs.Prelude.{◌≡◌, ℕ, List, [], ◌∷◌, ◌++◌, codes}
 use Rattle.gier_symbol.specs.declared.symbol.Symbol.{Symbol}
-use Rattle.gier_symbol.specs.Assembled.{assembled}
+use Rattle.gier_symbol.specs.Assembly.{assembly}
 use Rattle.gier_symbol.specs.Listing.{FaultAt, SymbolFault, WrongByte, WrongWord, OpenString, LargeNumber, Listing}
 use Rattle.gier_symbol.specs.Reading.{symbols_of}
 
@@ -227,10 +227,10 @@ pub record AreRead : Type 0 where
   pub nothing : symbols_of nothing_bytes ≡ nothing_read
 
 pub record AreAssembled : Type 0 where
-  pub names : assembled (symbols_of names_bytes).symbols ≡ names_assembled
-  pub run_on : assembled (symbols_of run_on_bytes).symbols ≡ run_on_assembled
-  pub number_then_name : assembled (symbols_of number_then_name_bytes).symbols ≡ number_then_name_assembled
-  pub large : assembled (symbols_of large_bytes).symbols ≡ large_assembled
-  pub comma : assembled (symbols_of comma_bytes).symbols ≡ comma_assembled
-  pub no_comma : assembled (symbols_of no_comma_bytes).symbols ≡ no_comma_assembled
-  pub two_commas : assembled (symbols_of two_commas_bytes).symbols ≡ two_commas_assembled
+  pub names : assembly (symbols_of names_bytes).symbols ≡ names_assembled
+  pub run_on : assembly (symbols_of run_on_bytes).symbols ≡ run_on_assembled
+  pub number_then_name : assembly (symbols_of number_then_name_bytes).symbols ≡ number_then_name_assembled
+  pub large : assembly (symbols_of large_bytes).symbols ≡ large_assembled
+  pub comma : assembly (symbols_of comma_bytes).symbols ≡ comma_assembled
+  pub no_comma : assembly (symbols_of no_comma_bytes).symbols ≡ no_comma_assembled
+  pub two_commas : assembly (symbols_of two_commas_bytes).symbols ≡ two_commas_assembled

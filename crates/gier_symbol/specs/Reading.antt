@@ -7,7 +7,7 @@ use Rattle.gier_symbol.specs.declared.word.Spelling.{Spelling}
 use Rattle.gier_symbol.specs.declared.word.Spelling.TheVariants.{Plain, Quoted}
 use Rattle.gier_symbol.specs.Bytes.{Front, ALayout, ALetter, ADigit, AWord, AString, ASign, Other, front_of}
 use Rattle.gier_symbol.specs.ByTag.{sym, word}
-use Rattle.gier_symbol.specs.Listing.{SymbolFault, WrongByte, WrongWord, OpenString, Listing, joined}
+use Rattle.gier_symbol.specs.Listing.{SymbolFault, WrongByte, WrongWord, OpenString, Listing, listings_joined}
 use Rattle.gier_symbol.specs.Spans.{string_bytes, comment_length, skipped_length}
 use Rattle.gier_symbol.specs.Tags.{number_of, name_of}
 use Rattle.gier_symbol.specs.Words.{word_of, comment_word}
@@ -74,7 +74,7 @@ read spelling [] taken fresh line = record { symbols = word TextEnd line ∷ [];
 read spelling (byte ∷ rest) (suc taken) fresh line = read spelling rest taken fresh (line_behind byte line)
 read spelling (byte ∷ rest) zero fresh line =
     let t = taken_by (front_of spelling byte rest) spelling fresh byte rest line in
-    joined t.gives (read spelling rest t.more t.fresh (line_behind byte line))
+    listings_joined t.gives (read spelling rest t.more t.fresh (line_behind byte line))
 
 -- `!` as the first byte gives nothing, and the rest is in the quoted spelling
 abbrev pub quoting_byte : ℕ

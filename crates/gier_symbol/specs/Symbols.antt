@@ -14,8 +14,8 @@ abbrev pub code_of : Symbol → List ℕ
 code_of s = (s.tag * 2 ^ 24 + s.line) ∷ s.value ∷ []
 
 -- the symbol with this code, where there is one
-abbrev pub decoded : ℕ → ℕ → Option Symbol
-decoded head value =
+abbrev pub symbol_of_code : ℕ → ℕ → Option Symbol
+symbol_of_code head value =
     if is_tag (head / 2 ^ 24) && nat_lt value (2 ^ 40)
     then Some (record { tag = head / 2 ^ 24; value = value; line = head % 2 ^ 24 })
     else None

@@ -21,7 +21,7 @@ const LINES: u64 = 1 << 24;
 const WORDS: u64 = 1 << 40;
 
 impl Symbol {
-    ghost use Rattle.gier_symbol.specs.Symbols.{IsSymbol, code_of, decoded};
+    ghost use Rattle.gier_symbol.specs.Symbols.{IsSymbol, code_of, symbol_of_code};
     ghost use Rattle.gier_symbol.specs.Tags.{number_of};
     ghost use Rattle.gier_symbol.specs.declared.symbol.Symbol.{Symbol};
 
@@ -52,7 +52,7 @@ impl Symbol {
 
     /// The symbol with this code, or None where the words are no code of a symbol.
     pub fn decode(words: [u64; 2]) -> Option<Symbol>
-        ensures value { result ≡ decoded (slice_index words 0) (slice_index words 1) }
+        ensures value { result ≡ symbol_of_code (slice_index words 0) (slice_index words 1) }
         ensures some { IfSome result (λ s. IsSymbol s × (code_of s ≡ words)) }
         ensures none { IfNone result ((s : Symbol) → IsSymbol s → code_of s ≢ words) }
     {

@@ -1,9 +1,9 @@
-pub mod Listed
-pub mod Told
+pub mod Tabulation
+pub mod SymbolCells
 pub mod Reading
 pub mod Writing
 pub mod Logs
-pub mod Driven
-pub mod Laid
-pub mod Waiting
-pub mod Wrote
+pub mod DriveLoop
+pub mod ListExtents
+pub mod OutboxSymbols
+pub mod WriteLoop

@@ -9,7 +9,7 @@ use Rattle.gier_drum.specs.declared.drum.Entry.TheVariants.{Read, Write}
 use Rattle.gier_drum.specs.Drum.{Logs}
 use Rattle.gier_text.specs.declared.text.Way.{Way}
 use Rattle.gier_text.specs.declared.text.Way.TheVariants.{Forward, Backward}
-use Rattle.gier_text.specs.Coded.{listed, tracks_for}
+use Rattle.gier_text.specs.SymbolsOnTracks.{tabulated, tracks_for}
 use Rattle.gier_text.specs.Log.{writes_of, reads_of, writing_log, log_of, new_read, last_write, LogsAll}
 use Rattle.gier_text.proofs.Reading.{IsForward, IsBackward}
 
@@ -62,7 +62,7 @@ reads_more Backward first all loaded t other ahead behind = elim (behind tt) [
       let track : all - 1 - (all + 1 - (t + 2)) ≡ t = omega arith in
       let test : nat_eq (t + 1) 0 ≡ false = grind (arith, nat_tests) in
       let other_test : nat_eq (t + 2) 0 ≡ false = grind (arith, nat_tests) in
-      rw (h.0, test, other_test, more) (ap (λ (n : ℕ). listed (λ (k : ℕ). Read (first + (all - 1 - k))) (all + 1 - (t + 2)) ++ Read (first + n) ∷ []) track)
+      rw (h.0, test, other_test, more) (ap (λ (n : ℕ). tabulated (λ (k : ℕ). Read (first + (all - 1 - k))) (all + 1 - (t + 2)) ++ Read (first + n) ∷ []) track)
 ]
 
 pub log_read : (fresh rewound : Bool) (first count : ℕ) (way : Way) (loaded t : ℕ) → rewound ≡ true → ((t + 1 ≡ loaded → ⊥) → IsForward way → loaded ≡ t) → ((t + 1 ≡ loaded → ⊥) → IsBackward way → ((loaded ≡ 0) × (t + 1 ≡ tracks_for count)) ⊎ ((loaded ≡ t + 2) × (loaded ≤ tracks_for count)))

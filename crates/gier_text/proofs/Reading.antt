@@ -5,11 +5,11 @@ use Rattle.std.proofs.lemmas.Bool.Decides.{nat_tests}
 use Rattle.gier_symbol.specs.declared.symbol.Symbol.{Symbol}
 use Rattle.gier_text.specs.declared.text.Way.{Way}
 use Rattle.gier_text.specs.declared.text.Way.TheVariants.{Forward, Backward}
-use Rattle.gier_text.specs.Left.{left_of}
-use Rattle.gier_text.specs.Coded.{IsNext, told, all_some, symbol_in, track_words, symbol_at, listed, left_in}
+use Rattle.gier_text.specs.Remaining.{left_of}
+use Rattle.gier_text.specs.SymbolsOnTracks.{IsNext, all_symbols, all_some, symbol_in, track_words, symbol_at, tabulated, left_in}
 use Rattle.gier_text.specs.View.{LeftFrom, IsLeftIn}
-use Rattle.gier_text.proofs.Listed.{length-listed, drop_past, step_forward, step_backward}
-use Rattle.gier_text.proofs.Told.{reads_cell}
+use Rattle.gier_text.proofs.Tabulation.{length-tabulated, drop_past, step_forward, step_backward}
+use Rattle.gier_text.proofs.SymbolCells.{reads_cell}
 
 abbrev pub IsForward : Way → Type 0
 IsForward Forward = Unit {0}
@@ -31,11 +31,11 @@ pub at_same : (all new : List (List ℕ)) (first loaded mark : ℕ) (buffer word
 at_same all new first loaded mark buffer words i same = ap (λ (w : List ℕ). symbol_in w (2 * (i % 20))) same
 
 -- what is left of one list, after one more is read
-pub left_step : {A : Type 0} (f g : ℕ → A) (way : Way) (count unread at : ℕ) → IsNext way count unread at → unread ≤ count → 0 < unread → (IsForward way → (i : ℕ) → at ≤ i → i < count → f i ≡ g i) → (IsBackward way → (i : ℕ) → i ≤ at → f i ≡ g i) → left_of way unread (listed f count) ≡ g at ∷ left_of way (unread - 1) (listed g count)
+pub left_step : {A : Type 0} (f g : ℕ → A) (way : Way) (count unread at : ℕ) → IsNext way count unread at → unread ≤ count → 0 < unread → (IsForward way → (i : ℕ) → at ≤ i → i < count → f i ≡ g i) → (IsBackward way → (i : ℕ) → i ≤ at → f i ≡ g i) → left_of way unread (tabulated f count) ≡ g at ∷ left_of way (unread - 1) (tabulated g count)
 left_step f g Forward count unread at is le some ahead behind =
     let here : count - unread ≡ at = omega arith in
     let next : count - (unread - 1) ≡ at + 1 = omega arith in
-    rw (length-listed f count, length-listed g count, here, next) (step_forward f g count at (omega arith) (ahead tt))
+    rw (length-tabulated f count, length-tabulated g count, here, next) (step_forward f g count at (omega arith) (ahead tt))
 left_step f g Backward count unread at is le some ahead behind =
     let here : unread ≡ at + 1 = omega arith in
     let next : unread - 1 ≡ at = omega arith in
@@ -68,7 +68,7 @@ same_reading all first loaded buffer words at i read elsewhere =
 cells_read : (all : List (List ℕ)) (first loaded : ℕ) (buffer words : List ℕ) (count : ℕ) (way : Way) (unread at : ℕ) → IsNext way count unread at → unread ≤ count → 0 < unread
     → (IsForward way → 20 * loaded + unread ≤ count + 20) → (IsBackward way → 0 < loaded → unread ≤ 20 * loaded)
     → words ≡ track_words all first loaded buffer (at / 20)
-    → left_of way unread (listed (symbol_at all first loaded buffer) count) ≡ symbol_in words (2 * (at % 20)) ∷ left_of way (unread - 1) (listed (symbol_at all first (at / 20 + 1) words) count)
+    → left_of way unread (tabulated (symbol_at all first loaded buffer) count) ≡ symbol_in words (2 * (at % 20)) ∷ left_of way (unread - 1) (tabulated (symbol_at all first (at / 20 + 1) words) count)
 cells_read all first loaded buffer words count way unread at is le some ahead behind read =
     let f = λ (i : ℕ). symbol_at all first loaded buffer i in
     let g = λ (i : ℕ). symbol_at all first (at / 20 + 1) words i in
@@ -85,11 +85,11 @@ pub left_read : (tracks : Option (List (List ℕ))) (first loaded : ℕ) (buffer
     → (IsForward way → 20 * loaded + unread ≤ count + 20) → (IsBackward way → 0 < loaded → unread ≤ 20 * loaded)
     → ((all : List (List ℕ)) → tracks ≡ Some all → words ≡ track_words all first loaded buffer (at / 20))
     → symbol_in words (2 * (at % 20)) ≡ Some s
-    → LeftFrom (told (left_in tracks first loaded buffer count way unread)) (s ∷ []) (told (left_in tracks first (at / 20 + 1) words count way (unread - 1)))
+    → LeftFrom (all_symbols (left_in tracks first loaded buffer count way unread)) (s ∷ []) (all_symbols (left_in tracks first (at / 20 + 1) words count way (unread - 1)))
 unfolding left_in
 left_read None first loaded buffer words count way unread at s is le some ahead behind read cell = tt
 left_read (Some all) first loaded buffer words count way unread at s is le some ahead behind read cell =
-    let rest = left_of way (unread - 1) (listed (symbol_at all first (at / 20 + 1) words) count) in
+    let rest = left_of way (unread - 1) (tabulated (symbol_at all first (at / 20 + 1) words) count) in
     rw (cells_read all first loaded buffer words count way unread at is le some ahead behind (read all refl), cell) (reads_cell rest s)
 
 -- a read of words that are no code, which comes only where what is left isn't told
@@ -97,7 +97,7 @@ pub left_spoilt : (tracks : Option (List (List ℕ))) (first loaded : ℕ) (buff
     → (IsForward way → 20 * loaded + unread ≤ count + 20) → (IsBackward way → 0 < loaded → unread ≤ 20 * loaded)
     → ((all : List (List ℕ)) → tracks ≡ Some all → words ≡ track_words all first loaded buffer (at / 20))
     → symbol_in words (2 * (at % 20)) ≡ None
-    → told (left_in tracks first loaded buffer count way unread) ≡ None
+    → all_symbols (left_in tracks first loaded buffer count way unread) ≡ None
 unfolding left_in
 left_spoilt None first loaded buffer words count way unread at is le some ahead behind read cell = refl
 left_spoilt (Some all) first loaded buffer words count way unread at is le some ahead behind read cell =
@@ -111,10 +111,10 @@ none_left : (o : Option (List Symbol)) → o ≡ Some [] → LeftFrom o [] o × 
 none_left o is = subst (λ (p : Option (List Symbol)). LeftFrom p [] p × IsLeftIn p []) (sym is) (([], refl, refl), refl)
 
 -- nothing is left where nothing is unread
-pub left_none : (tracks : Option (List (List ℕ))) (first loaded : ℕ) (buffer : List ℕ) (count : ℕ) (way : Way) → LeftFrom (told (left_in tracks first loaded buffer count way 0)) [] (told (left_in tracks first loaded buffer count way 0)) × IsLeftIn (told (left_in tracks first loaded buffer count way 0)) []
+pub left_none : (tracks : Option (List (List ℕ))) (first loaded : ℕ) (buffer : List ℕ) (count : ℕ) (way : Way) → LeftFrom (all_symbols (left_in tracks first loaded buffer count way 0)) [] (all_symbols (left_in tracks first loaded buffer count way 0)) × IsLeftIn (all_symbols (left_in tracks first loaded buffer count way 0)) []
 unfolding left_in
 left_none None first loaded buffer count way = (tt, tt)
-left_none (Some all) first loaded buffer count way = none_left (all_some (left_of way 0 (listed (symbol_at all first loaded buffer) count))) (ap (λ (l : List (Option Symbol)). all_some l) (left_of_none way (listed (symbol_at all first loaded buffer) count)))
+left_none (Some all) first loaded buffer count way = none_left (all_some (left_of way 0 (tabulated (symbol_at all first loaded buffer) count))) (ap (λ (l : List (Option Symbol)). all_some l) (left_of_none way (tabulated (symbol_at all first loaded buffer) count)))
 
 pub forward_bound : (count unread loaded : ℕ) → unread ≤ count → loaded ≡ (count - unread + 19) / 20 → 20 * loaded + unread ≤ count + 20
 forward_bound count unread loaded le is = omega arith

@@ -7,16 +7,16 @@ use Rattle.std.proofs.lemmas.List.{get_or-set_same, get_or-set_other, take_all}
 use Rattle.gier_drum.specs.Drum.{SetsTrack}
 use Rattle.gier_drum.specs.declared.drum.Entry.{Entry}
 use Rattle.gier_symbol.specs.declared.symbol.Symbol.{Symbol}
-use Rattle.gier_symbol.specs.Symbols.{IsSymbol, decoded}
+use Rattle.gier_symbol.specs.Symbols.{IsSymbol, symbol_of_code}
 use Rattle.gier_symbol.specs.Texts.{is_tag}
 use Rattle.gier_text.specs.declared.text.Way.{Way}
 use Rattle.gier_text.specs.declared.text.Way.TheVariants.{Forward, Backward}
-use Rattle.gier_text.specs.Left.{left_of}
-use Rattle.gier_text.specs.Coded.{told, all_some, symbol_in, symbol_at, listed, symbols_of, left_in, tracks_for, unwritten}
+use Rattle.gier_text.specs.Remaining.{left_of}
+use Rattle.gier_text.specs.SymbolsOnTracks.{all_symbols, all_some, symbol_in, symbol_at, tabulated, symbols_of, left_in, tracks_for, buffered_only}
 use Rattle.gier_text.specs.View.{View, KeepsTracks, Appends, OrdersLeft}
-use Rattle.gier_text.proofs.Listed.{length-listed, listed_more}
+use Rattle.gier_text.proofs.Tabulation.{length-tabulated, listed_more}
 use Rattle.gier_text.specs.Own.{listed_same}
-use Rattle.gier_text.proofs.Told.{ordered_cells, appends_cell, orders_cells}
+use Rattle.gier_text.proofs.SymbolCells.{ordered_cells, appends_cell, orders_cells}
 use Rattle.gier_text.proofs.Reading.{at_same, words_loaded, words_other}
 
 -- another text's symbols stay where a track that is not its own is written
@@ -26,7 +26,7 @@ kept_track tracks new first loaded buffer t words i is ne = at_same tracks new f
   | inr ne2 ↦ words_other tracks first loaded buffer (i / 20) ne2 ∙ (rw is (sym (get_or-set_other tracks t (first + i / 20) words [] ne))) ∙ sym (words_other new first loaded buffer (i / 20) ne2)
 ])
 
-kept_list : (tracks new : List (List ℕ)) (first loaded : ℕ) (buffer : List ℕ) (count capacity t : ℕ) (words : List ℕ) → new ≡ set tracks t words → count ≤ capacity → (t < first) ⊎ (first + tracks_for capacity ≤ t) → listed (symbol_at new first loaded buffer) count ≡ listed (symbol_at tracks first loaded buffer) count
+kept_list : (tracks new : List (List ℕ)) (first loaded : ℕ) (buffer : List ℕ) (count capacity t : ℕ) (words : List ℕ) → new ≡ set tracks t words → count ≤ capacity → (t < first) ⊎ (first + tracks_for capacity ≤ t) → tabulated (symbol_at new first loaded buffer) count ≡ tabulated (symbol_at tracks first loaded buffer) count
 kept_list tracks new first loaded buffer count capacity t words is le (inl before) = listed_same _ _ count (λ i below. sym (kept_track tracks new first loaded buffer t words i is (λ e. absurd (omega arith))))
 kept_list tracks new first loaded buffer count capacity t words is le (inr after) = listed_same _ _ count (λ i below. sym (kept_track tracks new first loaded buffer t words i is (λ e. absurd (omega arith))))
 
@@ -64,10 +64,10 @@ coded_before buffer place s q below =
     get_or-set_other (set buffer place (s.tag * 16777216 + s.line)) (place + 1) q s.value 0 (λ e. omega arith) ∙ get_or-set_other buffer place q (s.tag * 16777216 + s.line) 0 (λ e. omega arith) in
     let second_word : get_or (set (set buffer place (s.tag * 16777216 + s.line)) (place + 1) s.value) (q + 1) 0 ≡ get_or buffer (q + 1) 0 =
     get_or-set_other (set buffer place (s.tag * 16777216 + s.line)) (place + 1) (q + 1) s.value 0 (λ e. omega arith) ∙ get_or-set_other buffer place (q + 1) (s.tag * 16777216 + s.line) 0 (λ e. omega arith) in
-    ap (λ (h : ℕ). decoded h (get_or (set (set buffer place (s.tag * 16777216 + s.line)) (place + 1) s.value) (q + 1) 0)) first_word
-    ∙ ap (λ (v : ℕ). decoded (get_or buffer q 0) v) second_word
+    ap (λ (h : ℕ). symbol_of_code h (get_or (set (set buffer place (s.tag * 16777216 + s.line)) (place + 1) s.value) (q + 1) 0)) first_word
+    ∙ ap (λ (v : ℕ). symbol_of_code (get_or buffer q 0) v) second_word
 
-decoded_parts : (tag line value : ℕ) → is_tag tag ≡ true → line < 16777216 → nat_lt value 1099511627776 ≡ true → decoded (tag * 16777216 + line) value ≡ Some (record { tag = tag; value = value; line = line })
+decoded_parts : (tag line value : ℕ) → is_tag tag ≡ true → line < 16777216 → nat_lt value 1099511627776 ≡ true → symbol_of_code (tag * 16777216 + line) value ≡ Some (record { tag = tag; value = value; line = line })
 decoded_parts tag line value known low small =
     let t : (tag * 16777216 + line) / 16777216 ≡ tag = omega arith in
     let l : (tag * 16777216 + line) % 16777216 ≡ line = omega arith in
@@ -79,7 +79,7 @@ decoded_parts tag line value known low small =
 is_below : (n m : ℕ) → n < m → nat_lt n m ≡ true
 is_below n m lt = grind (arith, nat_tests)
 
-pub decoded_code : (s : Symbol) → IsSymbol s → decoded (s.tag * 16777216 + s.line) s.value ≡ Some s
+pub decoded_code : (s : Symbol) → IsSymbol s → symbol_of_code (s.tag * 16777216 + s.line) s.value ≡ Some s
 decoded_code s small =
     let fits : nat_lt s.value 1099511627776 ≡ true = is_below s.value 1099511627776 small.value in
     decoded_parts s.tag s.line s.value small.tag small.line fits
@@ -91,8 +91,8 @@ coded_here buffer place s small within =
     get_or-set_other (set buffer place (s.tag * 16777216 + s.line)) (place + 1) place s.value 0 (λ e. omega arith) ∙ get_or-set_same buffer place (s.tag * 16777216 + s.line) 0 (omega arith) in
     let second_word : get_or (set (set buffer place (s.tag * 16777216 + s.line)) (place + 1) s.value) (place + 1) 0 ≡ s.value =
     get_or-set_same (set buffer place (s.tag * 16777216 + s.line)) (place + 1) s.value 0 (omega (arith, length-set buffer place (s.tag * 16777216 + s.line))) in
-    ap (λ (h : ℕ). decoded h (get_or (set (set buffer place (s.tag * 16777216 + s.line)) (place + 1) s.value) (place + 1) 0)) first_word
-    ∙ ap (λ (v : ℕ). decoded (s.tag * 16777216 + s.line) v) second_word
+    ap (λ (h : ℕ). symbol_of_code h (get_or (set (set buffer place (s.tag * 16777216 + s.line)) (place + 1) s.value) (place + 1) 0)) first_word
+    ∙ ap (λ (v : ℕ). symbol_of_code (s.tag * 16777216 + s.line) v) second_word
     ∙ decoded_code s small
 
 buffered : (all : List (List ℕ)) (first count : ℕ) (buffer : List ℕ) (s : Symbol) (i : ℕ) → i < count → symbol_at all first (count / 20 + 1) buffer i ≡ symbol_at all first (count / 20 + 1) (coded buffer (2 * (count % 20)) s) i
@@ -105,17 +105,17 @@ buffered_here : (all : List (List ℕ)) (first count : ℕ) (buffer : List ℕ) 
 buffered_here all first count buffer s small long =
     rw (words_loaded all first (count / 20 + 1) (coded buffer (2 * (count % 20)) s) (count / 20) refl) (coded_here buffer (2 * (count % 20)) s small (omega arith))
 
-pub symbols_pushed : (tracks : Option (List (List ℕ))) (first loaded count : ℕ) (buffer : List ℕ) (s : Symbol) → loaded ≡ count / 20 + 1 → IsSymbol s → length buffer ≡ 40 → Appends (told (symbols_of tracks first loaded buffer count)) (s ∷ []) (told (symbols_of tracks first loaded (set (set buffer (2 * (count % 20)) (s.tag * 16777216 + s.line)) (2 * (count % 20) + 1) s.value) (count + 1)))
+pub symbols_pushed : (tracks : Option (List (List ℕ))) (first loaded count : ℕ) (buffer : List ℕ) (s : Symbol) → loaded ≡ count / 20 + 1 → IsSymbol s → length buffer ≡ 40 → Appends (all_symbols (symbols_of tracks first loaded buffer count)) (s ∷ []) (all_symbols (symbols_of tracks first loaded (set (set buffer (2 * (count % 20)) (s.tag * 16777216 + s.line)) (2 * (count % 20) + 1) s.value) (count + 1)))
 unfolding symbols_of coded
 symbols_pushed None first loaded count buffer s is small long = tt
 symbols_pushed (Some all) first loaded count buffer s is small long =
     rw is (rw (listed_more (λ (i : ℕ). symbol_at all first (count / 20 + 1) buffer i) (λ (i : ℕ). symbol_at all first (count / 20 + 1) (coded buffer (2 * (count % 20)) s) i) count (Some s) (buffered all first count buffer s) (buffered_here all first count buffer s small long))
-    (appends_cell (listed (symbol_at all first (count / 20 + 1) buffer) count) s))
+    (appends_cell (tabulated (symbol_at all first (count / 20 + 1) buffer) count) s))
 
 pub symbols_pushed_over : (tracks new : Option (List (List ℕ))) (first loaded count : ℕ) (buffer words : List ℕ) (s : Symbol) → loaded ≡ count / 20 + 1 → IsSymbol s → length buffer ≡ 40 → count % 20 ≡ 19
     → ((all : List (List ℕ)) → tracks ≡ Some all → first + count / 20 < length all)
     → SetsTrack tracks (first + count / 20) (set (set buffer (2 * (count % 20)) (s.tag * 16777216 + s.line)) (2 * (count % 20) + 1) s.value) new
-    → Appends (told (symbols_of tracks first loaded buffer count)) (s ∷ []) (told (symbols_of new first (loaded + 1) words (count + 1)))
+    → Appends (all_symbols (symbols_of tracks first loaded buffer count)) (s ∷ []) (all_symbols (symbols_of new first (loaded + 1) words (count + 1)))
 unfolding symbols_of coded
 symbols_pushed_over None new first loaded count buffer words s is small long full within sets = tt
 symbols_pushed_over (Some all) new first loaded count buffer words s is small long full within sets =
@@ -124,11 +124,11 @@ symbols_pushed_over (Some all) new first loaded count buffer words s is small lo
     rw (is, sets) (rw (listed_more (λ (i : ℕ). symbol_at all first (count / 20 + 1) buffer i) (λ (i : ℕ). symbol_at (set all (first + count / 20) (coded buffer (2 * (count % 20)) s)) first (count / 20 + 1 + 1) words i) count (Some s)
     (λ i below. buffered all first count buffer s i below ∙ out i (omega arith))
     (sym (out count (omega arith)) ∙ buffered_here all first count buffer s small long))
-    (appends_cell (listed (symbol_at all first (count / 20 + 1) buffer) count) s))
+    (appends_cell (tabulated (symbol_at all first (count / 20 + 1) buffer) count) s))
 
-rewound_list : (f g : ℕ → Option Symbol) (way : Way) (count : ℕ) → ((i : ℕ) → i < count → f i ≡ g i) → left_of way count (listed g count) ≡ ordered_cells way (listed f count)
-rewound_list f g Forward count same = let none : count - count ≡ 0 = omega arith in rw (length-listed g count, none, listed_same f g count same) refl
-rewound_list f g Backward count same = rw (take_all count (listed g count) (omega (arith, length-listed g count)), listed_same f g count same) refl
+rewound_list : (f g : ℕ → Option Symbol) (way : Way) (count : ℕ) → ((i : ℕ) → i < count → f i ≡ g i) → left_of way count (tabulated g count) ≡ ordered_cells way (tabulated f count)
+rewound_list f g Forward count same = let none : count - count ≡ 0 = omega arith in rw (length-tabulated g count, none, listed_same f g count same) refl
+rewound_list f g Backward count same = rw (take_all count (tabulated g count) (omega (arith, length-tabulated g count)), listed_same f g count same) refl
 
 orders_list : (way : Way) (xs ys : List (Option Symbol)) → ys ≡ ordered_cells way xs → OrdersLeft (all_some xs) way (all_some ys)
 orders_list way xs ys is = rw is (orders_cells way xs)
@@ -136,7 +136,7 @@ orders_list way xs ys is = rw is (orders_cells way xs)
 pub symbols_rewound : (tracks new : Option (List (List ℕ))) (first loaded count : ℕ) (buffer words : List ℕ) (way : Way) → loaded ≡ count / 20 + 1
     → ((all : List (List ℕ)) → tracks ≡ Some all → 0 < count % 20 → first + count / 20 < length all)
     → (0 < count % 20 → SetsTrack tracks (first + count / 20) buffer new) → (count % 20 ≡ 0 → new ≡ tracks)
-    → OrdersLeft (told (symbols_of tracks first loaded buffer count)) way (told (left_in new first 0 words count way count))
+    → OrdersLeft (all_symbols (symbols_of tracks first loaded buffer count)) way (all_symbols (left_in new first 0 words count way count))
 unfolding symbols_of left_in
 symbols_rewound None new first loaded count buffer words way is within begun full = tt
 symbols_rewound (Some all) new first loaded count buffer words way is within begun full = elim (cases_eq (count % 20) 0) [
@@ -179,22 +179,22 @@ elsewhere_last first capacity count other other_capacity le (inr after) some = i
 pub held_after : (fresh : Bool) (tracks new : Option (List (List ℕ))) (first loaded count : ℕ) (buffer : List ℕ)
     → (fresh ≡ true → loaded ≡ count / 20 + 1) → (fresh ≡ false → loaded ≡ 0)
     → ((all : List (List ℕ)) → tracks ≡ Some all → 0 < count % 20 → first + count / 20 < length all)
-    → (0 < unwritten fresh count → SetsTrack tracks (first + count / 20) buffer new) → (unwritten fresh count ≡ 0 → new ≡ tracks)
+    → (0 < buffered_only fresh count → SetsTrack tracks (first + count / 20) buffer new) → (buffered_only fresh count ≡ 0 → new ≡ tracks)
     → symbols_of new first 0 buffer count ≡ symbols_of tracks first loaded buffer count
 held_after true tracks new first loaded count buffer here found within begun full = symbols_held tracks new first loaded count buffer buffer (here refl) within begun full
 held_after false tracks new first loaded count buffer here found within begun full = rw (full refl, found refl) refl
 
-left_found : (tracks : Option (List (List ℕ))) (first count : ℕ) (buffer : List ℕ) (way : Way) → OrdersLeft (told (symbols_of tracks first 0 buffer count)) way (told (left_in tracks first 0 buffer count way count))
+left_found : (tracks : Option (List (List ℕ))) (first count : ℕ) (buffer : List ℕ) (way : Way) → OrdersLeft (all_symbols (symbols_of tracks first 0 buffer count)) way (all_symbols (left_in tracks first 0 buffer count way count))
 unfolding symbols_of left_in
 left_found None first count buffer way = tt
-left_found (Some all) first count buffer way = orders_list way (listed (symbol_at all first 0 buffer) count) (left_of way count (listed (symbol_at all first 0 buffer) count)) (rewound_list (λ (i : ℕ). symbol_at all first 0 buffer i) (λ (i : ℕ). symbol_at all first 0 buffer i) way count (λ i below. refl))
+left_found (Some all) first count buffer way = orders_list way (tabulated (symbol_at all first 0 buffer) count) (left_of way count (tabulated (symbol_at all first 0 buffer) count)) (rewound_list (λ (i : ℕ). symbol_at all first 0 buffer i) (λ (i : ℕ). symbol_at all first 0 buffer i) way count (λ i below. refl))
 
 -- what is left is what was held, in the order of reading
 pub left_after : (fresh : Bool) (tracks new : Option (List (List ℕ))) (first loaded count : ℕ) (buffer : List ℕ) (way : Way)
     → (fresh ≡ true → loaded ≡ count / 20 + 1) → (fresh ≡ false → loaded ≡ 0)
     → ((all : List (List ℕ)) → tracks ≡ Some all → 0 < count % 20 → first + count / 20 < length all)
-    → (0 < unwritten fresh count → SetsTrack tracks (first + count / 20) buffer new) → (unwritten fresh count ≡ 0 → new ≡ tracks)
-    → OrdersLeft (told (symbols_of tracks first loaded buffer count)) way (told (left_in new first 0 buffer count way count))
+    → (0 < buffered_only fresh count → SetsTrack tracks (first + count / 20) buffer new) → (buffered_only fresh count ≡ 0 → new ≡ tracks)
+    → OrdersLeft (all_symbols (symbols_of tracks first loaded buffer count)) way (all_symbols (left_in new first 0 buffer count way count))
 left_after true tracks new first loaded count buffer way here found within begun full = symbols_rewound tracks new first loaded count buffer buffer way (here refl) within begun full
 left_after false tracks new first loaded count buffer way here found within begun full = rw (full refl, found refl) (left_found tracks first count buffer way)
 
@@ -204,7 +204,7 @@ fresh_if true loaded count capacity found other = refl
 fresh_if false loaded count capacity found other = absurd (other (found refl).1)
 
 -- a track of one text is none of a text that is apart
-pub elsewhere_unwritten : (fresh : Bool) (first capacity count other other_capacity : ℕ) → count ≤ capacity → (first + tracks_for capacity ≤ other) ⊎ (other + tracks_for other_capacity ≤ first) → 0 < unwritten fresh count → (first + count / 20 < other) ⊎ (other + tracks_for other_capacity ≤ first + count / 20)
+pub elsewhere_unwritten : (fresh : Bool) (first capacity count other other_capacity : ℕ) → count ≤ capacity → (first + tracks_for capacity ≤ other) ⊎ (other + tracks_for other_capacity ≤ first) → 0 < buffered_only fresh count → (first + count / 20 < other) ⊎ (other + tracks_for other_capacity ≤ first + count / 20)
 elsewhere_unwritten true first capacity count other other_capacity le out some = elsewhere_last first capacity count other other_capacity le out some
 elsewhere_unwritten false first capacity count other other_capacity le out some = absurd (omega arith)
 
@@ -220,7 +220,7 @@ pub flush_kept : (rest : ℕ) (old new : Option (List (List ℕ))) (first end t 
 flush_kept zero old new first end t words begun full from below = same_kept old new first end (full refl)
 flush_kept (suc rest) old new first end t words begun full from below = sets_kept old new first end t words (begun (omega arith)) from (below (omega arith))
 
-pub unwritten_below : (fresh : Bool) (first count capacity : ℕ) → count ≤ capacity → 0 < unwritten fresh count → first + count / 20 < first + tracks_for capacity
+pub unwritten_below : (fresh : Bool) (first count capacity : ℕ) → count ≤ capacity → 0 < buffered_only fresh count → first + count / 20 < first + tracks_for capacity
 unwritten_below true first count capacity le some = omega arith
 unwritten_below false first count capacity le some = absurd (omega arith)
 

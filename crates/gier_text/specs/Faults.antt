@@ -34,14 +34,14 @@ text_of_fault Assignment = codes "assignment"
 text_of_fault Operand = codes "operand"
 
 -- the kind of a fault of bytes or numbers
-abbrev pub called : SymbolFault → FaultKind
-called WrongByte = Character
-called WrongWord = Word
-called OpenString = Unclosed
-called LargeNumber = Number
+abbrev pub kind_of_symbol_fault : SymbolFault → FaultKind
+kind_of_symbol_fault WrongByte = Character
+kind_of_symbol_fault WrongWord = Word
+kind_of_symbol_fault OpenString = Unclosed
+kind_of_symbol_fault LargeNumber = Number
 
-abbrev pub named : FaultAt SymbolFault → FaultAt FaultKind
-named fault = record { kind = called fault.kind; line = fault.line }
+abbrev pub as_fault : FaultAt SymbolFault → FaultAt FaultKind
+as_fault fault = record { kind = kind_of_symbol_fault fault.kind; line = fault.line }
 
 -- a fault of the tables without its position
 abbrev pub without_position : Fault → FaultAt FaultKind

@@ -25,8 +25,8 @@ abbrev pub word_at : TableList → ℕ → ℕ → ℕ
 word_at list at part = slice_index list.words (list.width * at + part)
 
 -- the list with one more entry
-abbrev pub pushed : TableList → List ℕ → TableList
-pushed list entry = record list { count = list.count + 1; words = list.words ++ entry }
+abbrev pub with_entry : TableList → List ℕ → TableList
+with_entry list entry = record list { count = list.count + 1; words = list.words ++ entry }
 
 -- the list's first entries
 abbrev pub cut_to : TableList → ℕ → TableList

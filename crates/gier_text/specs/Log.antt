@@ -5,7 +5,7 @@ use Rattle.gier_drum.specs.declared.drum.Entry.{Entry}
 use Rattle.gier_drum.specs.declared.drum.Entry.TheVariants.{Read, Write}
 use Rattle.gier_text.specs.declared.text.Way.{Way}
 use Rattle.gier_text.specs.declared.text.Way.TheVariants.{Forward, Backward}
-use Rattle.gier_text.specs.Coded.{listed, tracks_for, unwritten}
+use Rattle.gier_text.specs.SymbolsOnTracks.{tabulated, tracks_for, buffered_only}
 use Rattle.gier_text.specs.View.{View}
 
 -- these entries are appended
@@ -21,13 +21,13 @@ pub record Logged (old new : View) (before after : Option (List Entry)) : Type 0
 
 -- the writes of so many tracks from the first on
 abbrev pub writes_of : ℕ → ℕ → List Entry
-writes_of first n = listed (λ t. Write (first + t)) n
+writes_of first n = tabulated (λ t. Write (first + t)) n
 
 -- the reads of a text of so many tracks, of which the track before this number was read last: forward from the first
 -- track on, backward from the last one on
 abbrev pub reads_of : Way → ℕ → ℕ → ℕ → List Entry
-reads_of Forward first all loaded = listed (λ t. Read (first + t)) loaded
-reads_of Backward first all loaded = listed (λ t. Read (first + (all - 1 - t))) (if loaded == 0 then 0 else all + 1 - loaded)
+reads_of Forward first all loaded = tabulated (λ t. Read (first + t)) loaded
+reads_of Backward first all loaded = tabulated (λ t. Read (first + (all - 1 - t))) (if loaded == 0 then 0 else all + 1 - loaded)
 
 -- the entries of a text while it is written, where it is written here at all
 abbrev pub writing_log : Bool → ℕ → ℕ → List Entry
@@ -44,4 +44,4 @@ new_read first t loaded = if t + 1 == loaded then [] else Read (first + t) ∷ [
 
 -- the entry of the last track, where it has begun
 abbrev pub last_write : Bool → ℕ → ℕ → List Entry
-last_write fresh first count = if unwritten fresh count == 0 then [] else Write (first + count / 20) ∷ []
+last_write fresh first count = if buffered_only fresh count == 0 then [] else Write (first + count / 20) ∷ []

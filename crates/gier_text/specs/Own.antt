@@ -5,18 +5,18 @@ use Rattle.std.proofs.lemmas.Bool.Decides.{nat_tests}
 use Rattle.gier_drum.specs.declared.drum.Entry.{Entry}
 use Rattle.gier_symbol.specs.declared.symbol.Symbol.{Symbol}
 use Rattle.gier_text.specs.declared.text.Way.{Way}
-use Rattle.gier_text.specs.Left.{left_of}
-use Rattle.gier_text.specs.Coded.{listed, symbol_at, symbols_of, left_in, told, text_on, tracks_for}
+use Rattle.gier_text.specs.Remaining.{left_of}
+use Rattle.gier_text.specs.SymbolsOnTracks.{tabulated, symbol_at, symbols_of, left_in, all_symbols, text_on, tracks_for}
 use Rattle.gier_text.specs.View.{View, SameTracks}
 
-pub listed_same : {A : Type 0} (f g : ℕ → A) (n : ℕ) → ((i : ℕ) → i < n → f i ≡ g i) → listed f n ≡ listed g n
+pub listed_same : {A : Type 0} (f g : ℕ → A) (n : ℕ) → ((i : ℕ) → i < n → f i ≡ g i) → tabulated f n ≡ tabulated g n
 listed_same f g zero same = refl
 listed_same f g (suc n) same = rw (listed_same f g n (λ i lt. same i (omega arith)), same n (omega arith)) refl
 
 own_symbol : (old new : List (List ℕ)) (first loaded : ℕ) (buffer : List ℕ) (i : ℕ) → slice_index_or new (first + i / 20) [] ≡ slice_index_or old (first + i / 20) [] → symbol_at new first loaded buffer i ≡ symbol_at old first loaded buffer i
 own_symbol old new first loaded buffer i same = rw same refl
 
-own_list : (old new : List (List ℕ)) (first loaded : ℕ) (buffer : List ℕ) (count capacity : ℕ) → count ≤ capacity → SameTracks first (first + tracks_for capacity) (Some old) (Some new) → listed (symbol_at new first loaded buffer) count ≡ listed (symbol_at old first loaded buffer) count
+own_list : (old new : List (List ℕ)) (first loaded : ℕ) (buffer : List ℕ) (count capacity : ℕ) → count ≤ capacity → SameTracks first (first + tracks_for capacity) (Some old) (Some new) → tabulated (symbol_at new first loaded buffer) count ≡ tabulated (symbol_at old first loaded buffer) count
 own_list old new first loaded buffer count capacity le same = listed_same _ _ count (λ i below. own_symbol old new first loaded buffer i (same.own (first + i / 20) (omega arith) (omega arith)))
 
 own_symbols : (old new : Option (List (List ℕ))) (first loaded : ℕ) (buffer : List ℕ) (count capacity : ℕ) → count ≤ capacity → SameTracks first (first + tracks_for capacity) old new → symbols_of new first loaded buffer count ≡ symbols_of old first loaded buffer count
@@ -36,12 +36,12 @@ own_left (Some old) (Some new) first loaded buffer count capacity way unread le 
 -- a text on a drum over these tracks
 abbrev seen : Option (List (List ℕ)) → ℕ → ℕ → List ℕ → ℕ → ℕ → Bool → Way → ℕ → List Entry → View
 seen tracks first loaded buffer count capacity rewound way unread log = record {
-  held = told (symbols_of tracks first loaded buffer count);
+  held = all_symbols (symbols_of tracks first loaded buffer count);
   count = count;
   capacity = Some capacity;
   rewound = rewound;
   way = way;
-  left = told (left_in tracks first loaded buffer count way unread);
+  left = all_symbols (left_in tracks first loaded buffer count way unread);
   unread = unread;
   log = log;
 }
@@ -55,8 +55,8 @@ unloaded tracks first buffer i =
     let other : (i / 20 + 1 == 0) ≡ false = grind (arith, nat_tests) in
     rw other refl
 
-pub found_on : (tracks : Option (List (List ℕ))) (first loaded : ℕ) (buffer : List ℕ) (count : ℕ) → loaded ≡ 0 → told (symbols_of tracks first loaded buffer count) ≡ text_on tracks first count
+pub found_on : (tracks : Option (List (List ℕ))) (first loaded : ℕ) (buffer : List ℕ) (count : ℕ) → loaded ≡ 0 → all_symbols (symbols_of tracks first loaded buffer count) ≡ text_on tracks first count
 unfolding symbols_of
 found_on None first loaded buffer count none = refl
 found_on (Some tracks) first loaded buffer count none =
-    rw none (ap (λ l. told (Some l)) (listed_same _ _ count (λ i below. unloaded tracks first buffer i)))
+    rw none (ap (λ l. all_symbols (Some l)) (listed_same _ _ count (λ i below. unloaded tracks first buffer i)))

@@ -7,7 +7,7 @@ use Rattle.gier_text.specs.declared.pass.PassStop.TheVariants.{Drum, Memory, Ful
 use Rattle.gier_text.specs.View.{View}
 
 -- some symbols were taken and some written, and what was written is all that the output holds
-pub record Stands (stands : List Symbol → List Symbol → Type 0) (out : View) : Type 0 where
+pub record InvariantHolds (stands : List Symbol → List Symbol → Type 0) (out : View) : Type 0 where
   pub read : List Symbol
   pub written : List Symbol
   pub so_far : stands read written

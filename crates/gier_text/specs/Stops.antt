@@ -1,7 +1,7 @@
 -- Why a call on a text was refused.
 use Rattle.std.specs.Prelude.{ℕ, ◌≡◌, ◌+◌, ◌<◌, Result, Ok, Err, Option, None, Some}
 use Rattle.gier_word.specs.declared.refusal.Odd.{Odd}
-use Rattle.gier_symbol.specs.Symbols.{decoded, IsSymbol}
+use Rattle.gier_symbol.specs.Symbols.{symbol_of_code, IsSymbol}
 use Rattle.gier_symbol.specs.declared.symbol.Symbol.{Symbol}
 use Rattle.gier_text.specs.declared.text.TextStop.{TextStop}
 use Rattle.gier_text.specs.declared.text.TextStop.TheVariants.{Failed, Memory, Full, Spoilt}
@@ -20,7 +20,7 @@ pub record IsNoCode (text : View) (odd : Odd) : Type 0 where
   pub untold : text.left ≡ None
   pub place : odd.place + text.unread ≡ text.count
   pub some : 0 < text.unread
-  pub word : (value : ℕ) × (decoded odd.word value ≡ None)
+  pub word : (value : ℕ) × (symbol_of_code odd.word value ≡ None)
 
 -- a read answers Spoilt only where it must
 abbrev pub SpoiltOnly : {T : Type 0} → View → Result T TextStop → Type 0

@@ -51,13 +51,13 @@ pub record WritesAll (old : View) (ws : List Symbol) (new : View) : Type 0 where
 abbrev pub Writes : View → Symbol → View → Type 0
 Writes old s new = WritesAll old (s ∷ []) new
 
-abbrev pub ordered : Way → List Symbol → List Symbol
-ordered Forward xs = xs
-ordered Backward xs = reverse xs
+abbrev pub in_way : Way → List Symbol → List Symbol
+in_way Forward xs = xs
+in_way Backward xs = reverse xs
 
 abbrev pub OrdersLeft : Option (List Symbol) → Way → Option (List Symbol) → Type 0
 OrdersLeft None way left = Unit {0}
-OrdersLeft (Some held) way left = left ≡ Some (ordered way held)
+OrdersLeft (Some held) way left = left ≡ Some (in_way way held)
 
 -- it is read from now on, in this way
 pub record Rewinds (old : View) (direction : Way) (new : View) : Type 0 where
@@ -83,9 +83,9 @@ pub record ReadsAll (old : View) (read : List Symbol) (new : View) : Type 0 wher
   pub way : new.way ≡ old.way
 
 -- the symbol that a read gives, or none
-abbrev pub given : Option Symbol → List Symbol
-given None = []
-given (Some s) = s ∷ []
+abbrev pub as_list : Option Symbol → List Symbol
+as_list None = []
+as_list (Some s) = s ∷ []
 
 -- the symbols that were left, all of them
 abbrev pub IsLeftIn : Option (List Symbol) → List Symbol → Type 0
@@ -101,7 +101,7 @@ EndsAt None view = IsLeft view []
 EndsAt (Some s) view = 0 < view.unread
 
 pub record Reads (old : View) (s : Option Symbol) (new : View) : Type 0 where
-  pub read : ReadsAll old (given s) new
+  pub read : ReadsAll old (as_list s) new
   pub ends : EndsAt s old
 
 -- two texts have no track in common, each being a run of tracks from one up to another

@@ -5,9 +5,9 @@ ghost use Rattle.gier_symbol.specs.declared.symbol.Symbol.{Symbol};
 ghost use Rattle.gier_symbol.specs.Symbols.{IsSymbol};
 ghost use Rattle.gier_text.specs.declared.pass.PassStop.TheVariants.{Drum, Memory, Full};
 ghost use Rattle.gier_text.specs.declared.text.TextStop.TheVariants.{Failed as TextFailed, Memory as TextMemory, Full as TextFull};
-ghost use Rattle.gier_text.specs.Kept.{kept};
+ghost use Rattle.gier_text.specs.TablesModel.{tables_model};
 ghost use Rattle.gier_text.specs.Log.{Logged};
-ghost use Rattle.gier_text.specs.Driven.{LogsBoth, IsReadWhole, pass_stop_of, at_symbol, SpoiltAs, NamesLastRead};
+ghost use Rattle.gier_text.specs.Drive.{LogsBoth, IsReadWhole, pass_stop_of, at_symbol, SpoiltAs, NamesLastRead};
 ghost use Rattle.gier_text.specs.Passes.{HasLess, SpoiltIf};
 ghost use Rattle.gier_text.specs.View.{WritesAll, Writes, IsFull, IsEmpty, IsUnread, IsLeft, IsPlacedAs, Apart, KeepsTracks, KeepsOthers};
 
@@ -98,7 +98,7 @@ pub fn drive<P: Pass, T: Text>(
     ensures spoilt { (all : List Symbol) → (T.view input.old store.old).left ≡ Some all → P.expects pass.old all → SpoiltIf result (HasLess (T.view output.old store.old) (P.most pass.old)) }
     ensures last { (all : List Symbol) → (T.view input.old store.old).left ≡ Some all → P.expects pass.old all → SpoiltAs result (NamesLastRead (T.view input.old store.old) (T.view input.new store.new)) }
     ensures bounded { (all : List Symbol) → (T.view input.old store.old).left ≡ Some all → P.expects pass.old all → OnOk result ((T.view output.new store.new).count ≤ P.most pass.old) }
-    ensures limit { (kept tables.new).limit ≡ (kept tables.old).limit }
+    ensures limit { (tables_model tables.new).limit ≡ (tables_model tables.old).limit }
     ensures most { P.most pass.new ≡ P.most pass.old }
 {
     let mut place = 0u64;

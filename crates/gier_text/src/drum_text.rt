@@ -2,9 +2,9 @@
 ghost use Rattle.std.specs.Prelude.{◌≡◌, ◌<◌, ◌≤◌, ◌+◌, ◌/◌, ◌^◌, ◌*◌, ◌-◌, ◌%◌, ℕ, List, true, false, Some, None, length, All, OnOk, OnErr, IfErr, IfOk, slice_index, slice_set};
 ghost use Rattle.gier_word.specs.Cause.{HasCause};
 ghost use Rattle.gier_drum.specs.Drum.{SetsTrack};
-ghost use Rattle.gier_symbol.specs.Symbols.{IsSymbol, decoded};
+ghost use Rattle.gier_symbol.specs.Symbols.{IsSymbol, symbol_of_code};
 ghost use Rattle.gier_text.specs.declared.text.Way.TheVariants.{Forward, Backward};
-ghost use Rattle.gier_text.specs.Coded.{symbols_of, left_in, told, tracks_for, track_words, symbol_in, unwritten, IsNext};
+ghost use Rattle.gier_text.specs.SymbolsOnTracks.{symbols_of, left_in, all_symbols, tracks_for, track_words, symbol_in, buffered_only, IsNext};
 ghost use Rattle.gier_text.specs.Log.{log_of, new_read, last_write, LogsAll};
 ghost use Rattle.gier_text.specs.View.{View};
 
@@ -100,12 +100,12 @@ impl<D: Drum> Text for DrumText<D> {
     type Store = D;
 
     ghost view = { λ t store. record {
-      held = told (symbols_of (D.tracks store) t.first t.loaded t.buffer t.count);
+      held = all_symbols (symbols_of (D.tracks store) t.first t.loaded t.buffer t.count);
       count = t.count;
       capacity = Some t.capacity;
       rewound = t.rewound;
       way = t.way;
-      left = told (left_in (D.tracks store) t.first t.loaded t.buffer t.count t.way t.unread);
+      left = all_symbols (left_in (D.tracks store) t.first t.loaded t.buffer t.count t.way t.unread);
       unread = t.unread;
       log = log_of t.fresh t.rewound t.first t.count t.way t.loaded;
     } };
@@ -205,11 +205,11 @@ fn put(buffer: &mut [u64; 40], at: u32, s: Symbol)
 }
 
 // The symbol at its place on a track, or the first word where the two words there are no code.
-#[tactic(auto, unfolding(crate::specs::Coded::symbol_in))]
+#[tactic(auto, unfolding(crate::specs::SymbolsOnTracks::symbol_in))]
 fn get(buffer: &[u64; 40], at: u32) -> Result<Symbol, u64>
     requires { at < 20 }
     ensures symbol { IfOk result (λ s. IsSymbol s × (symbol_in buffer.now (2 * at) ≡ Some s)) }
-    ensures word { IfErr result (λ word. (symbol_in buffer.now (2 * at) ≡ None) × ((value : ℕ) × (decoded word value ≡ None))) }
+    ensures word { IfErr result (λ word. (symbol_in buffer.now (2 * at) ≡ None) × ((value : ℕ) × (symbol_of_code word value ≡ None))) }
 {
     let place = 2 * at as usize;
     let head = buffer[place];
@@ -281,8 +281,8 @@ fn flush<D: Drum>(
     requires fits { 0 < count % 20 → first + count / 20 < 2 ^ 32 }
     requires in_room { first + (count + 19) / 20 ≤ D.room store.old }
     requires small { All (λ word. word < 2 ^ 40) buffer.now }
-    ensures begun { OnOk result (0 < unwritten fresh count → SetsTrack (D.tracks store.old) (first + count / 20) buffer.now (D.tracks store.new)) }
-    ensures full { OnOk result (unwritten fresh count ≡ 0 → D.tracks store.new ≡ D.tracks store.old) }
+    ensures begun { OnOk result (0 < buffered_only fresh count → SetsTrack (D.tracks store.old) (first + count / 20) buffer.now (D.tracks store.new)) }
+    ensures full { OnOk result (buffered_only fresh count ≡ 0 → D.tracks store.new ≡ D.tracks store.old) }
     ensures err { OnErr result (D.tracks store.new ≡ D.tracks store.old) }
     ensures room { D.room store.new ≡ D.room store.old }
     ensures logged { OnOk result (LogsAll (D.journal store.old) (last_write fresh first count) (D.journal store.new)) }

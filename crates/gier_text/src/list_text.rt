@@ -1,7 +1,7 @@
 // A text in memory. It has no tracks, and only want of memory refuses a write.
 ghost use Rattle.std.specs.Prelude.{◌≡◌, ◌≤◌, true, false, Some, None, [], length, All};
 ghost use Rattle.gier_symbol.specs.Symbols.{IsSymbol};
-ghost use Rattle.gier_text.specs.Left.{left_of};
+ghost use Rattle.gier_text.specs.Remaining.{left_of};
 ghost use Rattle.gier_text.specs.View.{View};
 
 use crate::{Text, TextStop, Way};

@@ -4,9 +4,9 @@ ghost use Rattle.gier_word.specs.Cause.{HasRisen};
 ghost use Rattle.gier_symbol.specs.declared.symbol.Symbol.{Symbol};
 ghost use Rattle.gier_text.specs.declared.tables.Tables.{Tables};
 ghost use Rattle.gier_text.specs.declared.pass.PassStop.TheVariants.{Drum, Memory, Full};
-ghost use Rattle.gier_text.specs.Kept.{kept};
+ghost use Rattle.gier_text.specs.TablesModel.{tables_model};
 ghost use Rattle.gier_text.specs.Log.{Logged};
-ghost use Rattle.gier_text.specs.Passes.{Stands, Expected, ExpectedWhole, HasLess, SpoiltIf};
+ghost use Rattle.gier_text.specs.Passes.{InvariantHolds, Expected, ExpectedWhole, HasLess, SpoiltIf};
 ghost use Rattle.gier_text.specs.View.{WritesAll, IsFull, IsPlacedAs, KeepsTracks, KeepsOthers};
 
 use crate::{Tables, Text};
@@ -59,7 +59,7 @@ pub trait Pass {
         out: &mut T,
         tables: &mut Tables,
     ) -> Result<(), PassStop>
-        requires stands { Stands (stands self.old tables.old) (T.view out.old store.old) }
+        requires stands { InvariantHolds (stands self.old tables.old) (T.view out.old store.old) }
         requires writing { (T.view out.old store.old).rewound ≡ false }
         requires placed { T.end_track out.old ≤ T.room store.old }
         ensures ok { OnOk result ((ws : List Symbol) × WritesAll (T.view out.old store.old) ws (T.view out.new store.new)
@@ -76,7 +76,7 @@ pub trait Pass {
         ensures sound { Expected (stands self.old tables.old) (expects self.old) (T.view out.old store.old) (Self.In.symbol_of s ∷ []) → SpoiltIf result ⊥ }
         ensures roomy { Expected (stands self.old tables.old) (expects self.old) (T.view out.old store.old) (Self.In.symbol_of s ∷ []) → IsErrOf result Full → HasLess (T.view out.old store.old) (most self.old) }
         ensures bounded { Expected (stands self.old tables.old) (expects self.old) (T.view out.old store.old) (Self.In.symbol_of s ∷ []) → OnOk result ((T.view out.new store.new).count ≤ most self.old) }
-        ensures limit { (kept tables.new).limit ≡ (kept tables.old).limit }
+        ensures limit { (tables_model tables.new).limit ≡ (tables_model tables.old).limit }
         ensures still_most { most self.new ≡ most self.old }
         ensures still_expects { (list : List Symbol) → expects self.old list → expects self.new list };
 
@@ -87,7 +87,7 @@ pub trait Pass {
         out: &mut T,
         tables: &mut Tables,
     ) -> Result<(), PassStop>
-        requires stands { Stands (stands self.old tables.old) (T.view out.old store.old) }
+        requires stands { InvariantHolds (stands self.old tables.old) (T.view out.old store.old) }
         requires writing { (T.view out.old store.old).rewound ≡ false }
         requires placed { T.end_track out.old ≤ T.room store.old }
         ensures ok { OnOk result ((ws : List Symbol) × WritesAll (T.view out.old store.old) ws (T.view out.new store.new)
@@ -104,7 +104,7 @@ pub trait Pass {
         ensures sound { ExpectedWhole (stands self.old tables.old) (expects self.old) (T.view out.old store.old) → SpoiltIf result ⊥ }
         ensures roomy { ExpectedWhole (stands self.old tables.old) (expects self.old) (T.view out.old store.old) → IsErrOf result Full → HasLess (T.view out.old store.old) (most self.old) }
         ensures bounded { ExpectedWhole (stands self.old tables.old) (expects self.old) (T.view out.old store.old) → OnOk result ((T.view out.new store.new).count ≤ most self.old) }
-        ensures limit { (kept tables.new).limit ≡ (kept tables.old).limit }
+        ensures limit { (tables_model tables.new).limit ≡ (tables_model tables.old).limit }
         ensures still_most { most self.new ≡ most self.old };
 
     /// It writes at most 24 symbols for each byte.

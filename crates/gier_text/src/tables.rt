@@ -35,13 +35,13 @@ pub struct Tables {
 }
 
 impl Tables {
-    ghost use Rattle.gier_text.specs.Lists.{list_at, word_at, pushed, cut_to, with_word};
-    ghost use Rattle.gier_text.specs.Kept.{kept, fresh, with_list, with_at, AddsFault};
+    ghost use Rattle.gier_text.specs.Lists.{list_at, word_at, with_entry, cut_to, with_word};
+    ghost use Rattle.gier_text.specs.TablesModel.{tables_model, fresh, with_list, with_at, AddsFault};
 
     /// Tables without lists and faults, for programs of at most `limit` bytes.
     pub fn open(alloc: Global, limit: u32) -> Result<Tables, NoMemory>
         requires { limit ≤ 2 ^ 19 }
-        ensures { IfOk result (λ t. kept t ≡ fresh limit) }
+        ensures { IfOk result (λ t. tables_model t ≡ fresh limit) }
     {
         let Ok(lists) = Vec::with_capacity(alloc, LISTS) else {
             return Err(NoMemory);
@@ -61,7 +61,7 @@ impl Tables {
 
     /// The bytes of the longest program that they were opened for.
     pub fn limit(&self) -> u32
-        ensures limit { result ≡ (kept self.now).limit }
+        ensures limit { result ≡ (tables_model self.now).limit }
         ensures few { result ≤ 2 ^ 19 }
     {
         self.limit
@@ -69,11 +69,11 @@ impl Tables {
 
     /// Opens an empty list of entries of `width` words, and gives its number.
     pub fn list(&mut self, width: u8, capacity: u32) -> u8
-        requires few { length (kept self.old).lists < 16 }
+        requires few { length (tables_model self.old).lists < 16 }
         requires some { 0 < width }
-        requires fits { (kept self.old).used + width * capacity ≤ 62 * (kept self.old).limit + 4092 }
-        ensures number { result ≡ length (kept self.old).lists }
-        ensures opened { kept self.new ≡ with_list (kept self.old) width capacity }
+        requires fits { (tables_model self.old).used + width * capacity ≤ 62 * (tables_model self.old).limit + 4092 }
+        ensures number { result ≡ length (tables_model self.old).lists }
+        ensures opened { tables_model self.new ≡ with_list (tables_model self.old) width capacity }
     {
         let number = self.lists.len();
         self.lists.push_reserved(Extent {
@@ -88,11 +88,11 @@ impl Tables {
 
     /// Appends an entry to an open list that has room for it.
     pub fn push(&mut self, list: u8, entry: &[u64])
-        requires open { list < length (kept self.old).lists }
-        requires room { (list_at (kept self.old).lists list).count < (list_at (kept self.old).lists list).capacity }
-        requires width { length entry.now ≡ (list_at (kept self.old).lists list).width }
+        requires open { list < length (tables_model self.old).lists }
+        requires room { (list_at (tables_model self.old).lists list).count < (list_at (tables_model self.old).lists list).capacity }
+        requires width { length entry.now ≡ (list_at (tables_model self.old).lists list).width }
         requires small { All (λ word. word < 2 ^ 40) entry.now }
-        ensures { kept self.new ≡ with_at (kept self.old) list (pushed (list_at (kept self.old).lists list) entry.now) }
+        ensures { tables_model self.new ≡ with_at (tables_model self.old) list (with_entry (list_at (tables_model self.old).lists list) entry.now) }
     {
         let extent = extent_at(&self.lists, list);
         copy(&mut self.words, word_place(extent, extent.count, 0), entry);
@@ -101,27 +101,27 @@ impl Tables {
 
     /// How many entries an open list has.
     pub fn len(&self, list: u8) -> u32
-        requires { list < length (kept self.now).lists }
-        ensures { result ≡ (list_at (kept self.now).lists list).count }
+        requires { list < length (tables_model self.now).lists }
+        ensures { result ≡ (list_at (tables_model self.now).lists list).count }
     {
         extent_at(&self.lists, list).count as u32
     }
 
     /// Keeps the first `len` entries of an open list.
     pub fn cut(&mut self, list: u8, len: u32)
-        requires open { list < length (kept self.old).lists }
-        requires within { len ≤ (list_at (kept self.old).lists list).count }
-        ensures { kept self.new ≡ with_at (kept self.old) list (cut_to (list_at (kept self.old).lists list) len) }
+        requires open { list < length (tables_model self.old).lists }
+        requires within { len ≤ (list_at (tables_model self.old).lists list).count }
+        ensures { tables_model self.new ≡ with_at (tables_model self.old) list (cut_to (list_at (tables_model self.old).lists list) len) }
     {
         set_count(&mut self.lists, list, u64::from(len));
     }
 
     /// A word of an entry.
     pub fn word(&self, list: u8, at: u32, part: u8) -> u64
-        requires open { list < length (kept self.now).lists }
-        requires entry { at < (list_at (kept self.now).lists list).count }
-        requires part { part < (list_at (kept self.now).lists list).width }
-        ensures word { result ≡ word_at (list_at (kept self.now).lists list) at part }
+        requires open { list < length (tables_model self.now).lists }
+        requires entry { at < (list_at (tables_model self.now).lists list).count }
+        requires part { part < (list_at (tables_model self.now).lists list).width }
+        ensures word { result ≡ word_at (list_at (tables_model self.now).lists list) at part }
         ensures small { result < 2 ^ 40 }
     {
         let extent = extent_at(&self.lists, list);
@@ -131,11 +131,11 @@ impl Tables {
 
     /// Writes a word of an entry.
     pub fn set_word(&mut self, list: u8, at: u32, part: u8, word: u64)
-        requires open { list < length (kept self.old).lists }
-        requires entry { at < (list_at (kept self.old).lists list).count }
-        requires part { part < (list_at (kept self.old).lists list).width }
+        requires open { list < length (tables_model self.old).lists }
+        requires entry { at < (list_at (tables_model self.old).lists list).count }
+        requires part { part < (list_at (tables_model self.old).lists list).width }
         requires small { word < 2 ^ 40 }
-        ensures { kept self.new ≡ with_at (kept self.old) list (with_word (list_at (kept self.old).lists list) at part word) }
+        ensures { tables_model self.new ≡ with_at (tables_model self.old) list (with_word (list_at (tables_model self.old).lists list) at part word) }
     {
         let extent = extent_at(&self.lists, list);
         self.words
@@ -144,7 +144,7 @@ impl Tables {
 
     /// Gives back all lists; the faults stay.
     pub fn clear(&mut self)
-        ensures { kept self.new ≡ record (kept self.old) { used = 0; lists = [] } }
+        ensures { tables_model self.new ≡ record (tables_model self.old) { used = 0; lists = [] } }
     {
         self.lists.clear();
         self.used = 0;
@@ -152,15 +152,15 @@ impl Tables {
 
     /// Forgets all faults.
     pub fn drop_faults(&mut self)
-        ensures { kept self.new ≡ record (kept self.old) { faults = [] } }
+        ensures { tables_model self.new ≡ record (tables_model self.old) { faults = [] } }
     {
         self.faults.clear();
     }
 
     /// Adds a fault, behind all that have no later position.
     pub fn add_fault(&mut self, f: Fault)
-        requires { length (kept self.old).faults < (kept self.old).limit + 1 }
-        ensures { AddsFault (kept self.old) f (kept self.new) }
+        requires { length (tables_model self.old).faults < (tables_model self.old).limit + 1 }
+        ensures { AddsFault (tables_model self.old) f (tables_model self.new) }
     {
         let at = place_behind(&self.faults, f.position);
         match self.faults.insert(at, f) {
@@ -171,15 +171,15 @@ impl Tables {
 
     /// How many faults there are.
     pub fn faults(&self) -> u32
-        ensures { result ≡ length (kept self.now).faults }
+        ensures { result ≡ length (tables_model self.now).faults }
     {
         self.faults.len() as u32
     }
 
     /// The fault with this number from 0, in order of position.
     pub fn fault(&self, at: u32) -> Fault
-        requires { at < length (kept self.now).faults }
-        ensures { result ≡ slice_index_or (kept self.now).faults at result }
+        requires { at < length (tables_model self.now).faults }
+        ensures { result ≡ slice_index_or (tables_model self.now).faults at result }
     {
         self.faults[at as usize]
     }

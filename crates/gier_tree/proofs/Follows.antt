@@ -12,7 +12,7 @@ use Rattle.gier_tree.specs.Wanted.{NameAlone, MayBeElse, NoElse, AnElse, BranchA
 use Rattle.gier_tree.specs.Taking.{basic, basic_branch}
 use Rattle.gier_tree.specs.Structure.{with_tree, gather, build_at, build}
 use Rattle.gier_tree.proofs.Ends.{Ends, binds, false_true}
-use Rattle.gier_tree.proofs.Entering.{map_first}
+use Rattle.gier_tree.proofs.ExpressionStarts.{map_first}
 
 -- what goes on with a statement, or begins another; `_else` goes on with some
 abbrev pub follows : Sign → ℕ

@@ -1,9 +1,9 @@
 pub mod Ends
 pub mod Levels
-pub mod Entering
-pub mod Built
-pub mod Tails
-pub mod Right
+pub mod ExpressionStarts
+pub mod ExpressionsRead
+pub mod OperatorTails
+pub mod RightSides
 pub mod Follows
 pub mod Parts
-pub mod Whole
+pub mod ProgramsRead

@@ -11,7 +11,7 @@ use Rattle.gier_tree.specs.Wanted.{NoWord, ArrayWord, ProcedureWord, Item, Want,
 use Rattle.gier_tree.specs.Taking.{name_at, type_at, specifier_of, specification_of, segment_items, fixed_items}
 use Rattle.gier_tree.specs.Structure.{with_tree, gather, build}
 use Rattle.gier_tree.proofs.Ends.{Ends}
-use Rattle.gier_tree.proofs.Built.{expr_built}
+use Rattle.gier_tree.proofs.ExpressionsRead.{expr_built}
 use Rattle.gier_tree.proofs.Follows.{Headless, pass_values, specifications_headless}
 
 -- identifiers

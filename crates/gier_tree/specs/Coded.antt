@@ -5,7 +5,7 @@ use Rattle.gier_order.specs.declared.operation.Operation.TheVariants.{Take as OT
 use Rattle.gier_agree.specs.declared.kind.Kind.{Kind as Fitting}
 use Rattle.gier_agree.specs.declared.kind.Kind.TheVariants.{IntegerByValue as FIntegerValue, BooleanByValue as FBooleanValue, Integer as FInteger, Boolean as FBoolean, Label as FLabel, IntegerArray as FIntegerArray, BooleanArray as FBooleanArray, Switch as FSwitch, String as FString, Procedure as FProcedure, IntegerProcedure as FIntegerProcedure, BooleanProcedure as FBooleanProcedure}
 use Rattle.gier_agree.specs.Kinds.{number_of as fitting_number}
-use Rattle.gier_agree.specs.Packed.{packed}
+use Rattle.gier_agree.specs.Packed.{kinds_word}
 use Rattle.gier_symbol.specs.declared.symbol.Symbol.{Symbol}
 use Rattle.gier_tree.specs.declared.kind.Kind.{Kind}
 use Rattle.gier_tree.specs.declared.kind.Kind.TheVariants.{IntegerVariable, BooleanVariable, IntegerArray, BooleanArray, Label, Switch, Procedure, IntegerProcedure, BooleanProcedure, IntegerValue, BooleanValue, IntegerFormal, BooleanFormal, IntegerArrayFormal, BooleanArrayFormal, LabelFormal, SwitchFormal, StringFormal, ProcedureFormal, IntegerProcedureFormal, BooleanProcedureFormal, OutText}
@@ -13,7 +13,7 @@ use Rattle.gier_tree.specs.Kinds.{kind_number}
 use Rattle.gier_tree.specs.Described.{Scopes}
 use Rattle.gier_tree.specs.Lines.{first_expr}
 use Rattle.gier_tree.specs.Need.{need_expr}
-use Rattle.gier_tree.specs.Orders.{State, Following, Code, order, labelled, room_order, data_word, define, needs, new, nothing, data_words, jumped_over}
+use Rattle.gier_tree.specs.Orders.{State, Following, Code, order, with_label, room_order, data_word, define, needs, new, no_code, data_words, jumped_over}
 use Rattle.gier_tree.specs.Places.{Placed, Places}
 use Rattle.gier_tree.specs.Room.{call_header}
 use Rattle.gier_tree.specs.Written.{name_alone}
@@ -46,9 +46,9 @@ both op line a b level w st go = a level w st (λ s. order OKeep 0 w line s (λ 
 abbrev pub then_order : Operation → (line : ℕ) → Code → Code
 then_order op line a level w st go = a level w st (λ s. order op 0 0 line s go)
 
-abbrev pub signed : Adding → (line : ℕ) → Code → Code
-signed Add line a = a
-signed Subtract line a = then_order ONeg line a
+abbrev pub sign_code : Adding → (line : ℕ) → Code → Code
+sign_code Add line a = a
+sign_code Subtract line a = then_order ONeg line a
 
 -- a number, and a logical value
 abbrev pub number_code : (small : Bool) → (value line : ℕ) → Code
@@ -62,7 +62,7 @@ logical_number false = 0
 -- a conditional expression, also one that gives a label
 abbrev pub choice : (line : ℕ) → (test so otherwise : Code) → Code
 choice line test so otherwise level w st go =
-    test level w st (λ s. new s (λ x s1. labelled OFalse 0 x line s1 (λ s2. so level w s2 (λ s3. new s3 (λ y s4. labelled OJump 0 y line s4 (λ s5. define x s5 (λ s6. otherwise level w s6 (λ s7. define y s7 go))))))))
+    test level w st (λ s. new s (λ x s1. with_label OFalse 0 x line s1 (λ s2. so level w s2 (λ s3. new s3 (λ y s4. with_label OJump 0 y line s4 (λ s5. define x s5 (λ s6. otherwise level w s6 (λ s7. define y s7 go))))))))
 
 -- the address of a variable, a formal, or a function's value
 abbrev pub address_of : Placed → (line : ℕ) → State → Following → List Symbol
@@ -105,14 +105,14 @@ abbrev pub label_code : Placed → (line : ℕ) → Code
 label_code at line level w st go = by_kind at.what.kind
   where
     by_kind : Kind → List Symbol
-    by_kind Label = labelled OLab at.level at.address line st go
+    by_kind Label = with_label OLab at.level at.address line st go
     by_kind kind = order ONameL at.level at.address line st go
 
 abbrev pub switch_code : Placed → (line : ℕ) → Code → Code
 switch_code at line subscript level w st go = subscript level w st (λ s. by_kind at.what.kind s)
   where
     by_kind : Kind → Following
-    by_kind Switch s = labelled OSwitch at.level at.address line s go
+    by_kind Switch s = with_label OSwitch at.level at.address line s go
     by_kind kind s = order OSwForm at.level at.address line s go
 
 -- an evaluation, which stands behind a jump; its working places are behind its header
@@ -123,7 +123,7 @@ evaluation kind need line body st go = room_order OThunk kind call_header line s
 abbrev pub by_name : (kind need line : ℕ) → Code → (v : ℕ) → State → Following → List Symbol
 by_name kind need line body v st go =
     jumped_over line st (λ start s. evaluation kind need line body s)
-    (λ start s. labelled OShort 0 start line s (λ s1. order OKeep 0 v line s1 (λ s2. order OBase 0 0 line s2 (λ s3. order OKeep 0 (v + 1) line s3 go))))
+    (λ start s. with_label OShort 0 start line s (λ s1. order OKeep 0 v line s1 (λ s2. order OBase 0 0 line s2 (λ s3. order OKeep 0 (v + 1) line s3 go))))
 
 -- the words of a string: the number of its bytes, and the bytes, five to a word, the first in the highest bits
 abbrev pub five_bytes : (n : ℕ) → List ℕ → ℕ
@@ -140,13 +140,13 @@ abbrev pub string_words : List ℕ → List ℕ
 string_words bytes = length bytes ∷ bytes_words (length bytes) bytes
 
 abbrev pub string_code : List ℕ → (line : ℕ) → State → Following → List Symbol
-string_code bytes line st go = jumped_over line st (λ start s. data_words (string_words bytes) line s) (λ start s. labelled OShort 0 start line s go)
+string_code bytes line st go = jumped_over line st (λ start s. data_words (string_words bytes) line s) (λ start s. with_label OShort 0 start line s go)
 
 -- the kinds of formals and actuals at a call of a formal procedure, ten to a word, four bits each, the first in the highest bits
 abbrev pub packed_words : (fuel : ℕ) → List Fitting → List ℕ
 packed_words fuel [] = []
 packed_words zero (k ∷ kinds) = []
-packed_words (suc fuel) (k ∷ kinds) = packed (map fitting_number (k ∷ kinds)) ∷ packed_words fuel (drop 10 (k ∷ kinds))
+packed_words (suc fuel) (k ∷ kinds) = kinds_word (map fitting_number (k ∷ kinds)) ∷ packed_words fuel (drop 10 (k ∷ kinds))
 
 abbrev pub packed_kinds : List Fitting → List ℕ
 packed_kinds kinds = packed_words (length kinds) kinds
@@ -277,8 +277,8 @@ abbrev pub declared_actual : Placed → (line : ℕ) → State → Following →
 declared_actual at line st go = by_count at.what.count
   where
     by_count : ℕ → List Symbol
-    by_count zero = labelled OShort 0 at.address line st go
-    by_count (suc n) = jumped_over line st (λ start s k. labelled OKinds (suc n) at.address line s (λ s1. data_words (packed_kinds (map formal_fitting at.what.formals)) line s1 k)) (λ start s. labelled OShort 0 start line s go)
+    by_count zero = with_label OShort 0 at.address line st go
+    by_count (suc n) = jumped_over line st (λ start s k. with_label OKinds (suc n) at.address line s (λ s1. data_words (packed_kinds (map formal_fitting at.what.formals)) line s1 k)) (λ start s. with_label OShort 0 start line s go)
 
 -- a switch or procedure as an actual
 abbrev pub entity_actual : Placed → (line v : ℕ) → State → Following → List Symbol
@@ -295,7 +295,7 @@ entity_actual at line v st go = by_kind at.what.kind
     by_kind ProcedureFormal = formal
     by_kind IntegerProcedureFormal = formal
     by_kind BooleanProcedureFormal = formal
-    by_kind Switch = labelled OShort 0 at.address line st based
+    by_kind Switch = with_label OShort 0 at.address line st based
     by_kind kind = declared_actual at line st based
 
 abbrev pub named_actual : Option Placed → (Placed → List Symbol) → (otherwise : List Symbol) → List Symbol
@@ -342,7 +342,7 @@ fitting_kind FBooleanValue = BooleanFormal
 
 abbrev pub value_wanted : Placed → (i level v line : ℕ) → State → Following → List Symbol
 value_wanted at i level v line st go =
-    order OShort 0 i line st (λ s. order OByVal at.level at.address line s (λ s1. new s1 (λ x s2. labelled OFalse 0 x line s2 (λ s3. order OValue level v line s3 (λ s4. order OKeep 0 v line s4 (λ s5. define x s5 go))))))
+    order OShort 0 i line st (λ s. order OByVal at.level at.address line s (λ s1. new s1 (λ x s2. with_label OFalse 0 x line s2 (λ s3. order OValue level v line s3 (λ s4. order OKeep 0 v line s4 (λ s5. define x s5 go))))))
 
 abbrev pub values_wanted : Placed → (i level v line : ℕ) → List Fitting → State → Following → List Symbol
 values_wanted at i level v line [] st go = go st
@@ -359,7 +359,7 @@ formal_call at line (a ∷ more) level w st go =
     (λ s3. values_wanted at 1 level w line kinds s3 (λ s4. order OShort 0 w line s4 (λ s5. order OCallF at.level at.address line s5 go))))))
 
 abbrev pub declared_call : Placed → (line : ℕ) → List Part → Code
-declared_call at line parts level w st go = actuals_code at.what.formals level w parts st (λ s. order OShort 0 w line s (λ s1. labelled OCall at.level at.address line s1 go))
+declared_call at line parts level w st go = actuals_code at.what.formals level w parts st (λ s. order OShort 0 w line s (λ s1. with_label OCall at.level at.address line s1 go))
 
 -- a standard procedure; its number is its place in their order
 abbrev pub library : Kind → (line : ℕ) → State → Following → List Symbol
@@ -408,7 +408,7 @@ actual_fitting None type = type
 actual_fitting (Some at) type = name_fitting at.what.kind
 
 abbrev pub string_part : List Byte → (line : ℕ) → Part
-string_part bs line = record { value = nothing; label = nothing; element = None; name = None; string = Some (map (λ (b : Byte). b.value) bs); fitting = FString; need = 0; line = line }
+string_part bs line = record { value = no_code; label = no_code; element = None; name = None; string = Some (map (λ (b : Byte). b.value) bs); fitting = FString; need = 0; line = line }
 
 abbrev mutual
   pub code_expr : Places → Expr → Code
@@ -441,7 +441,7 @@ abbrev mutual
 
   pub code_arithmetic : Places → Arithmetic → Code
   code_arithmetic p (OneTerm t) = code_term p t
-  code_arithmetic p (Signed o l t) = signed o l (code_term p t)
+  code_arithmetic p (Signed o l t) = sign_code o l (code_term p t)
   code_arithmetic p (Summed a o l t) = both (adding_operation o) l (code_arithmetic p a) (code_term p t)
 
   pub code_term : Places → Term → Code
@@ -479,13 +479,13 @@ abbrev mutual
 
   pub code_simple_label : Places → Simple → Code
   code_simple_label p (OneImplication (OneDisjunction (OneConjunction (OneNegation (OneRelation (OneArithmetic (OneTerm (OneFactor (OnePrimary q))))))))) = code_primary_label p q
-  code_simple_label p s = nothing
+  code_simple_label p s = no_code
 
   pub code_primary_label : Places → Primary → Code
   code_primary_label p (Bracketed l e m) = code_label p e
   code_primary_label p (OneCall (Alone x)) = label_code (p x.number) x.line
   code_primary_label p (OneElement (Subscripted x l e es m)) = switch_code (p x.number) x.line (code_expr p e)
-  code_primary_label p q = nothing
+  code_primary_label p q = no_code
 
   pub part_of : Places → Actual → Part
   part_of p (OneExpr e) =

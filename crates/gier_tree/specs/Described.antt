@@ -16,11 +16,11 @@ pub record Described : Type 0 where
 abbrev pub Scopes : Type 0
 Scopes = ℕ → Described
 
-abbrev pub described : Kind → (count : ℕ) → List Kind → Described
-described kind count formals = record { kind = kind; count = count; formals = formals }
+abbrev pub description : Kind → (count : ℕ) → List Kind → Described
+description kind count formals = record { kind = kind; count = count; formals = formals }
 
 abbrev pub plain : Kind → Described
-plain kind = described kind 0 []
+plain kind = description kind 0 []
 
 -- in a scope that declares this identifier
 abbrev pub bind : (x : ℕ) → Described → Scopes → Scopes
@@ -100,14 +100,14 @@ bind_formals h [] scopes = scopes
 bind_formals h (x ∷ xs) scopes = bind x.number (plain (kind_in h x.number)) (bind_formals h xs scopes)
 
 abbrev pub procedure_described : Heading → Described
-procedure_described (MkHeading t l x fs m vs ss) = described (procedure_kind t) (length (formals_of (MkHeading t l x fs m vs ss))) (formal_kinds (MkHeading t l x fs m vs ss))
+procedure_described (MkHeading t l x fs m vs ss) = description (procedure_kind t) (length (formals_of (MkHeading t l x fs m vs ss))) (formal_kinds (MkHeading t l x fs m vs ss))
 
 abbrev pub bind_procedure : Heading → Scopes → Scopes
 bind_procedure (MkHeading t l x fs m vs ss) scopes = bind x.number (procedure_described (MkHeading t l x fs m vs ss)) scopes
 
 -- the arrays of a segment have as many subscripts as it has bound pairs
 abbrev pub bind_segment : ValueType → Segment → Scopes → Scopes
-bind_segment t (MkSegment ns l p ps m) scopes = bind_all (list_of ns) (described (array_kind t) (suc (length ps)) []) scopes
+bind_segment t (MkSegment ns l p ps m) scopes = bind_all (list_of ns) (description (array_kind t) (suc (length ps)) []) scopes
 
 abbrev pub bind_segments : ValueType → List NextSegment → Scopes → Scopes
 bind_segments t [] scopes = scopes

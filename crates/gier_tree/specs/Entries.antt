@@ -4,7 +4,7 @@ use Rattle.std.specs.Prelude.{ℕ, suc, ◌+◌, List, [], ◌∷◌, ◌++◌, 
 use Rattle.gier_tree.specs.declared.kind.Kind.{Kind}
 use Rattle.gier_tree.specs.declared.kind.Kind.TheVariants.{IntegerVariable, BooleanVariable, IntegerArray, BooleanArray, Label, Switch, Procedure, IntegerProcedure, BooleanProcedure, IntegerValue, BooleanValue, IntegerFormal, BooleanFormal, IntegerArrayFormal, BooleanArrayFormal, LabelFormal, SwitchFormal, StringFormal, ProcedureFormal, IntegerProcedureFormal, BooleanProcedureFormal}
 use Rattle.gier_tree.specs.Declaring.{list_of, formals_of, name_of_heading, labels_of_statement, labels_of_statements, labels_of_program}
-use Rattle.gier_tree.specs.Described.{Described, described, plain, variable_kind, array_kind, kind_in, procedure_described}
+use Rattle.gier_tree.specs.Described.{Described, description, plain, variable_kind, array_kind, kind_in, procedure_described}
 use Rattle.gier_tree.specs.Room.{descriptor}
 use Rattle.gier_tree.specs.Trees.{Name, ValueType, Segment, MkSegment, NextSegment, Heading, LabelPlace, Declaration, DeclareType, DeclareOwn, DeclareArrays, DeclareOwnArrays, DeclareSwitch, DeclareProcedure, Declarations, NoDeclarations, MoreDeclarations, Group, MkBlock, MkCompound, Statements, NoStatements, MoreStatements, Statement, OneUnconditional, OneConditional, OneLoop, Unconditional, MkUnconditional, Basic, OneGroup, Assign, Jump, CallStatement, Dummy, Conditional, IfThen, IfElse, IfLoop, Loop, MkLoop, Program}
 
@@ -16,7 +16,7 @@ abbrev pub entry : Described → Name → Entry
 entry what x = record { name = x; what = what }
 
 abbrev pub segment_entries : ValueType → Segment → List Entry
-segment_entries t (MkSegment ns l p ps m) = map (entry (described (array_kind t) (suc (length ps)) [])) (list_of ns)
+segment_entries t (MkSegment ns l p ps m) = map (entry (description (array_kind t) (suc (length ps)) [])) (list_of ns)
 
 abbrev pub segments_entries : ValueType → List NextSegment → List Entry
 segments_entries t [] = []

@@ -162,9 +162,9 @@ last_own (DeclareOwn l t ns) = last_name ns
 last_own (DeclareOwnArrays k t l s ss) = last_fixed s ss
 last_own d = 0
 
-abbrev pub hoisted : List Declaration → (i : ℕ) → Declarations
-hoisted [] i = NoDeclarations
-hoisted (d ∷ ds) i = MoreDeclarations (without_own d i) (last_own d) (hoisted ds (i + length (own_names d)))
+abbrev pub hoisted_declarations : List Declaration → (i : ℕ) → Declarations
+hoisted_declarations [] i = NoDeclarations
+hoisted_declarations (d ∷ ds) i = MoreDeclarations (without_own d i) (last_own d) (hoisted_declarations ds (i + length (own_names d)))
 
 -- the line of a program's first symbol
 abbrev pub begin_line : Group → ℕ
@@ -183,7 +183,7 @@ end_line (MkProgram ls g l) = l
 
 abbrev pub hoist_by : List Declaration → Program → Program
 hoist_by [] t = t
-hoist_by (d ∷ ds) t = MkProgram [] (MkBlock (first_line t) (without_own d 0) (last_own d) (hoisted ds (length (own_names d))) (with_fresh t) NoStatements (end_line t)) (end_line t)
+hoist_by (d ∷ ds) t = MkProgram [] (MkBlock (first_line t) (without_own d 0) (last_own d) (hoisted_declarations ds (length (own_names d))) (with_fresh t) NoStatements (end_line t)) (end_line t)
 
 abbrev pub hoist : Program → Program
 hoist t = hoist_by (owns_of_program t) t

@@ -32,8 +32,8 @@ abbrev pub order : Operation → (level address line : ℕ) → State → Follow
 order op level address line st go = record { tag = order_base + number_of op; value = level * 2 ^ 24 + address; line = line } ∷ go (behind_word st line)
 
 -- an order whose address is a label, and one whose address is a room that is still open
-abbrev pub labelled : Operation → (level label line : ℕ) → State → Following → List Symbol
-labelled op level label line st go = sym LabelOrder (number_of op * 2 ^ 32 + level * 2 ^ 24 + label) line ∷ go (behind_word st line)
+abbrev pub with_label : Operation → (level label line : ℕ) → State → Following → List Symbol
+with_label op level label line st go = sym LabelOrder (number_of op * 2 ^ 32 + level * 2 ^ 24 + label) line ∷ go (behind_word st line)
 
 abbrev pub room_order : Operation → (level room line : ℕ) → State → Following → List Symbol
 room_order op level room line st go = sym OpenRoom (number_of op * 2 ^ 32 + level * 2 ^ 24 + room) line ∷ go (behind_word st line)
@@ -63,8 +63,8 @@ new_unless None st go = new st go
 new_unless (Some label) st go = go label st
 
 -- no code
-abbrev pub nothing : Code
-nothing level w st go = go st
+abbrev pub no_code : Code
+no_code level w st go = go st
 
 -- one piece behind another, at the same place
 abbrev pub also : Code → Code → Code
@@ -77,4 +77,4 @@ data_words (v ∷ vs) line st go = data_word v line st (λ s. data_words vs line
 
 -- the orders of a jump over a piece that begins with a label
 abbrev pub jumped_over : (line : ℕ) → State → ((start : ℕ) → State → Following → List Symbol) → ((start : ℕ) → Following) → List Symbol
-jumped_over line st piece go = new st (λ x s. labelled OJump 0 x line s (λ s1. new s1 (λ start s2. define start s2 (λ s3. piece start s3 (λ s4. define x s4 (go start))))))
+jumped_over line st piece go = new st (λ x s. with_label OJump 0 x line s (λ s1. new s1 (λ start s2. define start s2 (λ s3. piece start s3 (λ s4. define x s4 (go start))))))

@@ -90,10 +90,10 @@ first_tree None = None
 first_tree (Some r) = Some r.0
 
 -- the program whose spelling the symbols are, where there is one
-abbrev pub written : List Symbol → Option Program
-written symbols = first_tree (build symbols (WantProgram ∷ []))
+abbrev pub program_spelled : List Symbol → Option Program
+program_spelled symbols = first_tree (build symbols (WantProgram ∷ []))
 
 -- there is at most one such program, and it is found
 pub record IsUnique : Type 0 where
   pub equal : (t u : Program) → spell_program t ≡ spell_program u → t ≡ u
-  pub read : (t : Program) → written (spell_program t) ≡ Some t
+  pub read : (t : Program) → program_spelled (spell_program t) ≡ Some t

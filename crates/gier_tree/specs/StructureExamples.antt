@@ -3,7 +3,7 @@
 use Rattle.std.specs.Prelude.{◌≡◌, List, [], ◌∷◌, None, Some}
 use Rattle.gier_symbol.specs.declared.symbol.Symbol.{Symbol}
 use Rattle.gier_tree.specs.SpellExamples.{row, sums_tree, sums_symbols, loop_tree, loop_symbols, declared_tree, declared_symbols}
-use Rattle.gier_tree.specs.Structure.{structure_fault, written}
+use Rattle.gier_tree.specs.Structure.{structure_fault, program_spelled}
 
 -- a program is a block or compound
 abbrev pub no_program : List Symbol
@@ -161,7 +161,7 @@ pub record AreStructured : Type 0 where
   pub spec_kinds_fault : structure_fault spec_kinds ≡ None
   pub thirty_pairs_fault : structure_fault thirty_pairs ≡ None
   pub more_pairs_fault : structure_fault more_pairs ≡ Some 2
-  pub sums_written : written sums_symbols ≡ Some sums_tree
-  pub loop_written : written loop_symbols ≡ Some loop_tree
-  pub declared_written : written declared_symbols ≡ Some declared_tree
-  pub none_written : written loop_else ≡ None
+  pub sums_written : program_spelled sums_symbols ≡ Some sums_tree
+  pub loop_written : program_spelled loop_symbols ≡ Some loop_tree
+  pub declared_written : program_spelled declared_symbols ≡ Some declared_tree
+  pub none_written : program_spelled loop_else ≡ None

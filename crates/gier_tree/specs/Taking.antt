@@ -80,8 +80,8 @@ right_of x (NameHasActuals l a as' t) = no_lefts (OneSimple (simple_from (OneCal
 abbrev pub basic : Basic → Statement
 basic b = OneUnconditional (MkUnconditional [] b)
 
-abbrev pub assigned : LeftSide → (becomes : ℕ) → Right → Basic
-assigned p m r = Assign (record { left = p; becomes = m }) r.lefts r.value
+abbrev pub assignment_tree : LeftSide → (becomes : ℕ) → Right → Basic
+assignment_tree p m r = Assign (record { left = p; becomes = m }) r.lefts r.value
 
 abbrev pub label_unconditional : LabelPlace → Unconditional → Unconditional
 label_unconditional p (MkUnconditional ls b) = MkUnconditional (p ∷ ls) b
@@ -111,8 +111,8 @@ label_at x m = record { name = x; colon = m }
 
 abbrev pub named_statement : Name → AfterName → Statement
 named_statement x (NameLabels m s) = label_statement (label_at x m) s
-named_statement x (NameAssigned m r) = basic (assigned (OneName x) m r)
-named_statement x (ElementAssigned l e es m r) = basic (assigned (LeftElement (element_of x l e es)) m r)
+named_statement x (NameAssigned m r) = basic (assignment_tree (OneName x) m r)
+named_statement x (ElementAssigned l e es m r) = basic (assignment_tree (LeftElement (element_of x l e es)) m r)
 named_statement x (NameCalled l a as') = basic (CallStatement (call_of x l a as'))
 named_statement x NameAlone = basic (CallStatement (Alone x))
 
@@ -121,8 +121,8 @@ basic_branch b e = BranchUnconditional (MkUnconditional [] b) e
 
 abbrev pub named_branch : Name → AfterBranchName → Branch
 named_branch x (BranchLabels m b) = label_branch (label_at x m) b
-named_branch x (BranchAssigned m r e) = basic_branch (assigned (OneName x) m r) e
-named_branch x (BranchElement l e es m r el) = basic_branch (assigned (LeftElement (element_of x l e es)) m r) el
+named_branch x (BranchAssigned m r e) = basic_branch (assignment_tree (OneName x) m r) e
+named_branch x (BranchElement l e es m r el) = basic_branch (assignment_tree (LeftElement (element_of x l e es)) m r) el
 named_branch x (BranchCalled l a as' e) = basic_branch (CallStatement (call_of x l a as')) e
 named_branch x (BranchAlone e) = basic_branch (CallStatement (Alone x)) e
 

@@ -10,7 +10,7 @@ use Rattle.gier_tree.specs.Entries.{block_entries, procedure_entries, turn_entri
 use Rattle.gier_tree.specs.Hoist.{hoist}
 use Rattle.gier_tree.specs.Lines.{first_expr, first_name, first_left, first_heading, group_begin}
 use Rattle.gier_tree.specs.Need.{need_expr, need_statement, need_group, need_block}
-use Rattle.gier_tree.specs.Orders.{State, Following, Code, order, labelled, room_order, data_word, label_word, define, needs, new, new_unless, nothing, also}
+use Rattle.gier_tree.specs.Orders.{State, Following, Code, order, with_label, room_order, data_word, label_word, define, needs, new, new_unless, no_code, also}
 use Rattle.gier_tree.specs.OwnCount.{owns_in_unconditional}
 use Rattle.gier_tree.specs.Places.{Placed, Places, block_places, procedure_places, turn_places, program_places}
 use Rattle.gier_tree.specs.Room.{block_header, block_words, procedure_words, result_words}
@@ -46,11 +46,11 @@ abbrev pub set_to : Placed → (variable line : ℕ) → (value : Code) → Code
 set_to x variable line value level w st go = address_of x variable st (λ s. order OKeep 0 (w + 1) line s (λ s1. value level (w + 2) s1 (λ s2. order OPut 0 (w + 1) line s2 go)))
 
 abbrev pub do_next : (back line w : ℕ) → Option ℕ → State → ((s : ℕ) → Following) → List Symbol
-do_next back line w label st go = labelled OShort 0 back line st (λ s. order OKeep 0 w line s (λ s1. new_unless label s1 (λ body s2. labelled OJump 0 body line s2 (go body))))
+do_next back line w label st go = with_label OShort 0 back line st (λ s. order OKeep 0 w line s (λ s1. new_unless label s1 (λ body s2. with_label OJump 0 body line s2 (go body))))
 
 -- V + B
-abbrev pub stepped : Placed → (variable line : ℕ) → (step : Code) → Code
-stepped x variable line step level w st go = value_of x variable st (λ s. order OKeep 0 w line s (λ s1. step level (w + 1) s1 (λ s2. order OAdd 0 w line s2 go)))
+abbrev pub step_value_code : Placed → (variable line : ℕ) → (step : Code) → Code
+step_value_code x variable line step level w st go = value_of x variable st (λ s. order OKeep 0 w line s (λ s1. step level (w + 1) s1 (λ s2. order OAdd 0 w line s2 go)))
 
 abbrev pub turns_code : Places → Placed → (variable : ℕ) → Turns → (level w : ℕ) → Option ℕ → State → ((s : ℕ) → Following) → List Symbol
 turns_code p x variable (OneValue e) level w body st go =
@@ -58,14 +58,14 @@ turns_code p x variable (OneValue e) level w body st go =
     set_to x variable line (code_expr p e) level w st (λ s. new s (λ n s1. do_next n line w body s1 (λ b s2. define n s2 (go b))))
 turns_code p x variable (StepUntil a l b m c) level w body st go =
     let line = first_expr a in
-    set_to x variable line (code_expr p a) level w st (λ s. new s (λ t s1. labelled OJump 0 t line s1 (λ s2. new s2 (λ again s3. define again s3 (λ s4.
-    set_to x variable line (stepped x variable line (code_expr p b)) level w s4 (λ s5. define t s5 (λ s6.
+    set_to x variable line (code_expr p a) level w st (λ s. new s (λ t s1. with_label OJump 0 t line s1 (λ s2. new s2 (λ again s3. define again s3 (λ s4.
+    set_to x variable line (step_value_code x variable line (code_expr p b)) level w s4 (λ s5. define t s5 (λ s6.
     value_of x variable s6 (λ s7. order OKeep 0 (w + 1) line s7 (λ s8. code_expr p c level (w + 2) s8 (λ s9. order OSub 0 (w + 1) line s9 (λ s10. order OKeep 0 (w + 1) line s10 (λ s11.
-    code_expr p b level (w + 2) s11 (λ s12. order OTest 0 (w + 1) line s12 (λ s13. new s13 (λ n s14. labelled OFalse 0 n line s14 (λ s15.
+    code_expr p b level (w + 2) s11 (λ s12. order OTest 0 (w + 1) line s12 (λ s13. new s13 (λ n s14. with_label OFalse 0 n line s14 (λ s15.
     do_next again line w body s15 (λ q s16. define n s16 (go q))))))))))))))))))
 turns_code p x variable (WhileTrue e l f) level w body st go =
     let line = first_expr e in
-    new st (λ again s. define again s (λ s1. set_to x variable line (code_expr p e) level w s1 (λ s2. code_expr p f level (w + 1) s2 (λ s3. new s3 (λ n s4. labelled OFalse 0 n line s4 (λ s5.
+    new st (λ again s. define again s (λ s1. set_to x variable line (code_expr p e) level w s1 (λ s2. code_expr p f level (w + 1) s2 (λ s3. new s3 (λ n s4. with_label OFalse 0 n line s4 (λ s5.
     do_next again line w body s5 (λ q s6. define n s6 (go q))))))))
 
 abbrev pub next_turns_code : Places → Placed → (variable : ℕ) → List NextTurns → (level w body : ℕ) → State → ((s : ℕ) → Following) → List Symbol
@@ -111,26 +111,26 @@ switch_elements_code p labels es st go = go st
 
 abbrev pub switch_declared : Places → (line : ℕ) → Name → List Expr → State → Following → List Symbol
 switch_declared p line x es st go =
-    new st (λ over s. labelled OJump 0 over line s (λ s1. define (p x.number).address s1 (λ s2. data_word (length es) line s2 (λ s3. table_code (length es) line s3 (λ labels s4. switch_elements_code p labels es s4 (λ s5. define over s5 go))))))
+    new st (λ over s. with_label OJump 0 over line s (λ s1. define (p x.number).address s1 (λ s2. data_word (length es) line s2 (λ s3. table_code (length es) line s3 (λ labels s4. switch_elements_code p labels es s4 (λ s5. define over s5 go))))))
 
 -- a procedure: its body stands behind a jump
 abbrev pub procedure_declared : Places → (level need line : ℕ) → Heading → (body : Code) → State → Following → List Symbol
 procedure_declared p level need line (MkHeading t l x fs m vs ss) body st go =
     let h = MkHeading t l x fs m vs ss in
-    new st (λ over s. labelled OJump 0 over line s (λ s1. define (p x.number).address s1 (λ s2. room_order OProc level (procedure_words h) line s2 (λ s3. data_word (2 * length (formals_of h) + result_words t) line s3 (λ s4.
+    new st (λ over s. with_label OJump 0 over line s (λ s1. define (p x.number).address s1 (λ s2. room_order OProc level (procedure_words h) line s2 (λ s3. data_word (2 * length (formals_of h) + result_words t) line s3 (λ s4.
     body level (procedure_words h) s4 (λ s5. order OReturn 0 (result_words t) line s5 (λ s6. needs need s6 (λ s7. define over s7 go))))))))
 
 -- conditional statements
 abbrev pub if_code : (line : ℕ) → (test so : Code) → Code
-if_code line test so level w st go = test level w st (λ s. new s (λ x s1. labelled OFalse 0 x line s1 (λ s2. so level w s2 (λ s3. define x s3 go))))
+if_code line test so level w st go = test level w st (λ s. new s (λ x s1. with_label OFalse 0 x line s1 (λ s2. so level w s2 (λ s3. define x s3 go))))
 
 abbrev pub if_else_code : (line : ℕ) → (test so otherwise : Code) → Code
-if_else_code line test so otherwise level w st go = test level w st (λ s. new s (λ x s1. labelled OFalse 0 x line s1 (λ s2. so level w s2 (λ s3. new s3 (λ y s4. labelled OJump 0 y line s4 (λ s5. define x s5 (λ s6. otherwise level w s6 (λ s7. define y s7 go))))))))
+if_else_code line test so otherwise level w st go = test level w st (λ s. new s (λ x s1. with_label OFalse 0 x line s1 (λ s2. so level w s2 (λ s3. new s3 (λ y s4. with_label OJump 0 y line s4 (λ s5. define x s5 (λ s6. otherwise level w s6 (λ s7. define y s7 go))))))))
 
 -- a for statement: its elements, and the controlled statement, which returns to where its turn came from
 abbrev pub for_code : Places → (line : ℕ) → Name → Turns → List NextTurns → (body : Code) → Code
 for_code p line x t ts body level w st go =
-    turns_code p (p x.number) x.line t level w None st (λ b s. next_turns_code p (p x.number) x.line ts level w b s (λ c s1. new s1 (λ end s2. labelled OJump 0 end line s2 (λ s3. define c s3 (λ s4.
+    turns_code p (p x.number) x.line t level w None st (λ b s. next_turns_code p (p x.number) x.line ts level w b s (λ c s1. new s1 (λ end s2. with_label OJump 0 end line s2 (λ s3. define c s3 (λ s4.
     body level (w + 1) s4 (λ s5. order OTurn 0 w line s5 (λ s6. define end s6 go)))))))
 
 abbrev pub block_code : (level need line words : ℕ) → (inside : Code) → State → Following → List Symbol
@@ -138,17 +138,17 @@ block_code level need line words inside st go = room_order OBlock level words li
 
 abbrev mutual
   pub code_declaration : Places → Where → Declaration → Code
-  code_declaration p at (DeclareType y ns) = nothing
-  code_declaration p at (DeclareOwn l y ns) = nothing
+  code_declaration p at (DeclareType y ns) = no_code
+  code_declaration p at (DeclareOwn l y ns) = no_code
   code_declaration p at (DeclareArrays y l s ss) = also (segment_code p s) (segments_code p ss)
-  code_declaration p at (DeclareOwnArrays k y l s ss) = nothing
+  code_declaration p at (DeclareOwnArrays k y l s ss) = no_code
   code_declaration p at (DeclareSwitch l x m e es) = λ level w st go. switch_declared p l x (e ∷ elements_of es) st go
   code_declaration p at (DeclareProcedure h s) =
       let q = procedure_places (suc at.level) at.numbers h s p in
       λ level w st go. procedure_declared p (suc at.level) (need_statement (scopes_of q) s) (first_heading h) h (code_statement q (inner at (procedure_entries h s)) s) st go
 
   pub code_declarations : Places → Where → Declarations → Code
-  code_declarations p at NoDeclarations = nothing
+  code_declarations p at NoDeclarations = no_code
   code_declarations p at (MoreDeclarations d l ds) = also (code_declaration p at d) (code_declarations p (behind_declaration at d) ds)
 
   pub code_group : Places → Where → Group → Code
@@ -162,7 +162,7 @@ abbrev mutual
   code_group p at (MkCompound l s ss n) = also (code_statement p at s) (code_statements p (behind_statement at s) ss)
 
   pub code_statements : Places → Where → Statements → Code
-  code_statements p at NoStatements = nothing
+  code_statements p at NoStatements = no_code
   code_statements p at (MoreStatements l s ss) = also (code_statement p at s) (code_statements p (behind_statement at s) ss)
 
   pub code_statement : Places → Where → Statement → Code
@@ -178,7 +178,7 @@ abbrev mutual
   code_basic p at (Assign q qs e) = assignment_code p q qs e
   code_basic p at (Jump l e) = then_order OGo l (code_label p e)
   code_basic p at (CallStatement c) = code_call p c
-  code_basic p at Dummy = nothing
+  code_basic p at Dummy = no_code
 
   pub code_conditional : Places → Where → Conditional → Code
   code_conditional p at (IfThen ls l e m u) = also (labels_code p ls) (if_code l (code_expr p e) (code_unconditional p at u))

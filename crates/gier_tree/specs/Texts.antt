@@ -19,7 +19,7 @@ use Rattle.gier_tree.specs.Lines.{first_expr, last_expr, first_turns, last_turns
 use Rattle.gier_tree.specs.OwnCount.{owns_in_declaration, owns_in_declarations, owns_in_statement, owns_in_unconditional}
 use Rattle.gier_tree.specs.Places.{Places, block_places, procedure_places, turn_places}
 use Rattle.gier_tree.specs.Spell.{spell_type, spell_option_type, spell_specifier}
-use Rattle.gier_tree.specs.Written.{Stage, Marked, Collected, Text, opens, shuts, used, leading_tag, text_name, text_expr, text_call, text_element}
+use Rattle.gier_tree.specs.Written.{Stage, Marked, Collected, Text, opens, shuts, used_name, leading_tag, text_name, text_expr, text_call, text_element}
 use Rattle.gier_tree.specs.Trees.{Name, Expr, Call, Alone, Exprs, NoExprs, MoreExprs, NextName, Names, MkNames, TypeWord, BoundPair, MkPair, NextPair, Segment, MkSegment, NextSegment, Constant, Unsigned, WithSign, FixedPair, MkFixedPair, Further, NoFurther, MoreFurther, FurtherPairs, most_further, FixedSegment, MkFixed, NextFixed, Formals, NoFormals, FormalList, ValuePart, NoValues, ValueList, Specification, Heading, MkHeading, LabelPlace, LeftSide, OneName, LeftElement, LeftPart, Turns, OneValue, StepUntil, WhileTrue, NextTurns, Declaration, DeclareType, DeclareOwn, DeclareArrays, DeclareOwnArrays, DeclareSwitch, DeclareProcedure, Declarations, NoDeclarations, MoreDeclarations, Group, MkBlock, MkCompound, Statements, NoStatements, MoreStatements, Statement, OneUnconditional, OneConditional, OneLoop, Unconditional, MkUnconditional, Basic, OneGroup, Assign, Jump, CallStatement, Dummy, Conditional, IfThen, IfElse, IfLoop, Loop, MkLoop}
 
 -- the entries of a scope, on the line of its open mark
@@ -160,7 +160,7 @@ text_labels [] rest = rest
 text_labels (l ∷ ls) rest = declares l.name ∷ word LabelColon l.colon ∷ text_labels ls rest
 
 abbrev pub text_left : Text → Places → LeftSide → List Symbol → List Symbol
-text_left t p (OneName x) rest = used t p x rest
+text_left t p (OneName x) rest = used_name t p x rest
 text_left t p (LeftElement e) rest = text_element t p e rest
 
 abbrev pub text_lefts : Text → Places → List LeftPart → List Symbol → List Symbol
@@ -268,7 +268,7 @@ abbrev mutual
 
   pub text_loop : Text → Places → Where → (next : ℕ) → Loop → List Symbol → List Symbol
   text_loop t p w next (MkLoop ls l x m u us n s) rest =
-      opens MFor (first_loop (MkLoop ls l x m u us n s)) ∷ text_labels ls (word For l ∷ used t p x (word Becomes m ∷ text_turns t p u (text_next_turns t p us (word Do n
+      opens MFor (first_loop (MkLoop ls l x m u us n s)) ∷ text_labels ls (word For l ∷ used_name t p x (word Becomes m ∷ text_turns t p u (text_next_turns t p us (word Do n
       ∷ opens MControlled (first_statement s next) ∷ entries t.stage (turn_entries s) (first_statement s next)
       (text_statement t (turn_places w.level w.numbers s p) (further w (entries_numbers (turn_entries s)) 0) next s
       (shuts MControlled (last_statement s next) ∷ shuts MFor (last_loop (MkLoop ls l x m u us n s)) ∷ rest))))))

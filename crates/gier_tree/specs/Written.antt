@@ -66,13 +66,13 @@ used_in Collected owns at x rest = sym Identifier (number_written owns x.number)
 used_in Distributed owns at x rest = described_use at x.line rest
 used_in Polished owns at x rest = described_use at x.line rest
 
-abbrev pub used : Text → Places → Name → List Symbol → List Symbol
-used t p x rest = used_in t.stage t.owns (p x.number) x rest
+abbrev pub used_name : Text → Places → Name → List Symbol → List Symbol
+used_name t p x rest = used_in t.stage t.owns (p x.number) x rest
 
 -- a symbol that stands between operands or parts, but not in the last of these texts, and one that stands behind them there alone
-abbrev pub between : Stage → Symbol → List Symbol → List Symbol
-between Polished s rest = rest
-between stage s rest = s ∷ rest
+abbrev pub separator : Stage → Symbol → List Symbol → List Symbol
+separator Polished s rest = rest
+separator stage s rest = s ∷ rest
 
 abbrev pub behind : Stage → Symbol → List Symbol → List Symbol
 behind Polished s rest = s ∷ rest
@@ -82,9 +82,9 @@ abbrev pub operation : Tag → (line : ℕ) → Symbol
 operation tag line = sym Operation (number_of tag) line
 
 -- what ends subscripts or actuals
-abbrev pub closing : Stage → (bracket count : Symbol) → List Symbol → List Symbol
-closing Polished bracket count rest = count ∷ rest
-closing stage bracket count rest = bracket ∷ rest
+abbrev pub closing_bracket : Stage → (bracket count : Symbol) → List Symbol → List Symbol
+closing_bracket Polished bracket count rest = count ∷ rest
+closing_bracket stage bracket count rest = bracket ∷ rest
 
 abbrev pub leading_tag : Adding → Tag
 leading_tag Add = LeadingPlus
@@ -123,8 +123,8 @@ pub data Expected : Type 0 where
   Unknown : Expected
   Known : List Kind → Expected
 
-abbrev pub expected : Described → Expected
-expected d = expected_by d.kind d.formals
+abbrev pub expected_kinds : Described → Expected
+expected_kinds d = expected_by d.kind d.formals
   where
     expected_by : Kind → List Kind → Expected
     expected_by ProcedureFormal formals = Unknown
@@ -158,7 +158,7 @@ called_alone stage false line rest = rest
 
 -- a name alone, which may be a call
 abbrev pub text_name : Text → Places → (called : Bool) → Name → List Symbol → List Symbol
-text_name t p called x rest = used t p x (called_alone t.stage called x.line rest)
+text_name t p called x rest = used_name t p x (called_alone t.stage called x.line rest)
 
 abbrev pub actual_by : Option Name → Text → Places → Expected → (written : List Symbol) → List Symbol → List Symbol
 actual_by None t p e written rest = written
@@ -171,40 +171,40 @@ abbrev mutual
 
   pub text_simple : Text → Places → Simple → List Symbol → List Symbol
   text_simple t p (OneImplication i) rest = text_implication t p i rest
-  text_simple t p (Equivalent s l i) rest = text_simple t p s (between t.stage (word Equiv l) (text_implication t p i (behind t.stage (operation Equiv l) rest)))
+  text_simple t p (Equivalent s l i) rest = text_simple t p s (separator t.stage (word Equiv l) (text_implication t p i (behind t.stage (operation Equiv l) rest)))
 
   pub text_implication : Text → Places → Implication → List Symbol → List Symbol
   text_implication t p (OneDisjunction d) rest = text_disjunction t p d rest
-  text_implication t p (Implies i l d) rest = text_implication t p i (between t.stage (word Impl l) (text_disjunction t p d (behind t.stage (operation Impl l) rest)))
+  text_implication t p (Implies i l d) rest = text_implication t p i (separator t.stage (word Impl l) (text_disjunction t p d (behind t.stage (operation Impl l) rest)))
 
   pub text_disjunction : Text → Places → Disjunction → List Symbol → List Symbol
   text_disjunction t p (OneConjunction c) rest = text_conjunction t p c rest
-  text_disjunction t p (Either d l c) rest = text_disjunction t p d (between t.stage (word Or l) (text_conjunction t p c (behind t.stage (operation Or l) rest)))
+  text_disjunction t p (Either d l c) rest = text_disjunction t p d (separator t.stage (word Or l) (text_conjunction t p c (behind t.stage (operation Or l) rest)))
 
   pub text_conjunction : Text → Places → Conjunction → List Symbol → List Symbol
   text_conjunction t p (OneNegation n) rest = text_negation t p n rest
-  text_conjunction t p (Both c l n) rest = text_conjunction t p c (between t.stage (word And l) (text_negation t p n (behind t.stage (operation And l) rest)))
+  text_conjunction t p (Both c l n) rest = text_conjunction t p c (separator t.stage (word And l) (text_negation t p n (behind t.stage (operation And l) rest)))
 
   pub text_negation : Text → Places → Negation → List Symbol → List Symbol
   text_negation t p (OneRelation r) rest = text_relation t p r rest
-  text_negation t p (Negated l r) rest = between t.stage (word Not l) (text_relation t p r (behind t.stage (operation Not l) rest))
+  text_negation t p (Negated l r) rest = separator t.stage (word Not l) (text_relation t p r (behind t.stage (operation Not l) rest))
 
   pub text_relation : Text → Places → Relation → List Symbol → List Symbol
   text_relation t p (OneArithmetic a) rest = text_arithmetic t p a rest
-  text_relation t p (Compared a o l b) rest = text_arithmetic t p a (between t.stage (word (comparing_tag o) l) (text_arithmetic t p b (behind t.stage (operation (comparing_tag o) l) rest)))
+  text_relation t p (Compared a o l b) rest = text_arithmetic t p a (separator t.stage (word (comparing_tag o) l) (text_arithmetic t p b (behind t.stage (operation (comparing_tag o) l) rest)))
 
   pub text_arithmetic : Text → Places → Arithmetic → List Symbol → List Symbol
   text_arithmetic t p (OneTerm m) rest = text_term t p m rest
-  text_arithmetic t p (Signed o l m) rest = between t.stage (word (leading_tag o) l) (text_term t p m (behind t.stage (operation (leading_tag o) l) rest))
-  text_arithmetic t p (Summed a o l m) rest = text_arithmetic t p a (between t.stage (word (adding_tag o) l) (text_term t p m (behind t.stage (operation (adding_tag o) l) rest)))
+  text_arithmetic t p (Signed o l m) rest = separator t.stage (word (leading_tag o) l) (text_term t p m (behind t.stage (operation (leading_tag o) l) rest))
+  text_arithmetic t p (Summed a o l m) rest = text_arithmetic t p a (separator t.stage (word (adding_tag o) l) (text_term t p m (behind t.stage (operation (adding_tag o) l) rest)))
 
   pub text_term : Text → Places → Term → List Symbol → List Symbol
   text_term t p (OneFactor f) rest = text_factor t p f rest
-  text_term t p (Multiplied m o l f) rest = text_term t p m (between t.stage (word (multiplying_tag o) l) (text_factor t p f (behind t.stage (operation (multiplying_tag o) l) rest)))
+  text_term t p (Multiplied m o l f) rest = text_term t p m (separator t.stage (word (multiplying_tag o) l) (text_factor t p f (behind t.stage (operation (multiplying_tag o) l) rest)))
 
   pub text_factor : Text → Places → Factor → List Symbol → List Symbol
   text_factor t p (OnePrimary q) rest = text_primary t p q rest
-  text_factor t p (Raised f l q) rest = text_factor t p f (between t.stage (word Power l) (text_primary t p q (behind t.stage (operation Power l) rest)))
+  text_factor t p (Raised f l q) rest = text_factor t p f (separator t.stage (word Power l) (text_primary t p q (behind t.stage (operation Power l) rest)))
 
   pub text_primary : Text → Places → Primary → List Symbol → List Symbol
   text_primary t p (Numeral n l) rest = sym Number n l ∷ rest
@@ -216,14 +216,14 @@ abbrev mutual
   pub text_call : Text → Places → Call → List Symbol → List Symbol
   text_call t p (Alone x) rest = text_name t p (is_called_alone (p x.number).what.kind (p x.number).what.count) x rest
   text_call t p (WithActuals x l a more m) rest =
-      let e = expected (p x.number).what in
-      used t p x (between t.stage (word LeftParenthesis l) (text_actual t p e a (text_actuals t p (further_expected e) more
-      (closing t.stage (word RightParenthesis m) (sym Called (suc (count_actuals more)) l) rest))))
+      let e = expected_kinds (p x.number).what in
+      used_name t p x (separator t.stage (word LeftParenthesis l) (text_actual t p e a (text_actuals t p (further_expected e) more
+      (closing_bracket t.stage (word RightParenthesis m) (sym Called (suc (count_actuals more)) l) rest))))
 
   pub text_element : Text → Places → Element → List Symbol → List Symbol
   text_element t p (Subscripted x l e es m) rest =
-      used t p x (between t.stage (word LeftBracket l) (opens MSubscript (first_expr e) ∷ text_expr t p e (shuts MSubscript (last_expr e) ∷ text_subscripts t p es
-      (closing t.stage (word RightBracket m) (sym SubscriptedTag (suc (count_exprs es)) l) rest))))
+      used_name t p x (separator t.stage (word LeftBracket l) (opens MSubscript (first_expr e) ∷ text_expr t p e (shuts MSubscript (last_expr e) ∷ text_subscripts t p es
+      (closing_bracket t.stage (word RightBracket m) (sym SubscriptedTag (suc (count_exprs es)) l) rest))))
 
   pub text_actual : Text → Places → Expected → Actual → List Symbol → List Symbol
   text_actual t p e (OneExpr x) rest = opens MActual (first_expr x) ∷ actual_by (name_alone x) t p e (text_expr t p x (shuts MActual (last_expr x) ∷ rest)) (shuts MActual (last_expr x) ∷ rest)
@@ -231,8 +231,8 @@ abbrev mutual
 
   pub text_actuals : Text → Places → Expected → Actuals → List Symbol → List Symbol
   text_actuals t p e NoActuals rest = rest
-  text_actuals t p e (MoreActuals l a more) rest = between t.stage (word Comma l) (text_actual t p e a (text_actuals t p (further_expected e) more rest))
+  text_actuals t p e (MoreActuals l a more) rest = separator t.stage (word Comma l) (text_actual t p e a (text_actuals t p (further_expected e) more rest))
 
   pub text_subscripts : Text → Places → Exprs → List Symbol → List Symbol
   text_subscripts t p NoExprs rest = rest
-  text_subscripts t p (MoreExprs l e es) rest = between t.stage (word Comma l) (opens MSubscript (first_expr e) ∷ text_expr t p e (shuts MSubscript (last_expr e) ∷ text_subscripts t p es rest))
+  text_subscripts t p (MoreExprs l e es) rest = separator t.stage (word Comma l) (opens MSubscript (first_expr e) ∷ text_expr t p e (shuts MSubscript (last_expr e) ∷ text_subscripts t p es rest))

@@ -23,31 +23,31 @@ abbrev pub is_zero : ℤ → Bool
 is_zero z = int_le (pos 0) z && int_le z (pos 0)
 
 -- the number where it is in the range, and a spill elsewhere
-abbrev pub held : ℤ → Result ℤ Spoil
-held z = if is_in_range z then Ok z else Err Spill
+abbrev pub in_range_or_spill : ℤ → Result ℤ Spoil
+in_range_or_spill z = if is_in_range z then Ok z else Err Spill
 
 abbrev pub sum_of : ℤ → ℤ → Result ℤ Spoil
-sum_of a b = held (a +ℤ b)
+sum_of a b = in_range_or_spill (a +ℤ b)
 
 abbrev pub difference_of : ℤ → ℤ → Result ℤ Spoil
-difference_of a b = held (a -ℤ b)
+difference_of a b = in_range_or_spill (a -ℤ b)
 
 abbrev pub product_of : ℤ → ℤ → Result ℤ Spoil
-product_of a b = held (a *ℤ b)
+product_of a b = in_range_or_spill (a *ℤ b)
 
 -- the quotient without its fraction, that is sign(a/b) * entier(abs(a/b))
 abbrev pub quotient_of : ℤ → ℤ → Result ℤ Spoil
-quotient_of a b = if is_zero b then Err Division else held (int_div a b)
+quotient_of a b = if is_zero b then Err Division else in_range_or_spill (int_div a b)
 
 -- the repeated product for a positive exponent, and 1 for the exponent 0 of any base but 0
 abbrev pub power_of : ℤ → ℤ → Result ℤ Spoil
-power_of a b = if int_lt b (pos 0) then Err Power else (if is_zero a && is_zero b then Err Power else held (int_pow a (nat_abs b)))
+power_of a b = if int_lt b (pos 0) then Err Power else (if is_zero a && is_zero b then Err Power else in_range_or_spill (int_pow a (nat_abs b)))
 
 abbrev pub negative_of : ℤ → Result ℤ Spoil
-negative_of a = held (neg_ℤ a)
+negative_of a = in_range_or_spill (neg_ℤ a)
 
 abbrev pub modulus_of : ℤ → Result ℤ Spoil
-modulus_of a = held (pos (nat_abs a))
+modulus_of a = in_range_or_spill (pos (nat_abs a))
 
 -- 1, 0 or -1 as the number is positive, zero or negative
 abbrev pub sign_of : ℤ → ℤ

@@ -1,7 +1,7 @@
 // Whole numbers of 40 bits and their operations (Report 3.3.4, whole numbers only).
 ghost use Rattle.std.specs.Prelude.{◌≡◌, ◌≢◌, ◌<◌, ◌^◌, ◌↔◌, pos, nat_abs, int_div, IsSome, IfSome, ◌+ℤ◌, ◌-ℤ◌, ◌*ℤ◌, ◌≤ℤ◌, ◌<ℤ◌};
 ghost use Rattle.std.specs.Int.{int_pow};
-ghost use Rattle.gier_word.specs.Operations.{InRange, held, sum_of, difference_of, product_of, quotient_of, power_of, negative_of, modulus_of, sign_of};
+ghost use Rattle.gier_word.specs.Operations.{InRange, in_range_or_spill, sum_of, difference_of, product_of, quotient_of, power_of, negative_of, modulus_of, sign_of};
 ghost use Rattle.gier_word.specs.Words.{int_of_word, word_of_int};
 
 use crate::Word40;
@@ -152,7 +152,7 @@ impl Int40 {
 
 // The number where it is in the range, and a spill elsewhere.
 fn answer(n: i64) -> Result<Int40, Spoil>
-    ensures { result ≡ held n }
+    ensures { result ≡ in_range_or_spill n }
 {
     match Int40::of(n) {
         Some(a) => Ok(a),
@@ -182,7 +182,7 @@ fn quotient(a: i64, b: i64) -> i64
 fn raised(a: i64, b: i64) -> Result<Int40, Spoil>
     requires range { InRange a }
     requires exponent { pos 0 ≤ℤ b }
-    ensures { result ≡ held (int_pow a (nat_abs b)) }
+    ensures { result ≡ in_range_or_spill (int_pow a (nat_abs b)) }
 {
     if b > LARGEST_TRIED {
         return large_power(a, b);
@@ -197,7 +197,7 @@ fn raised(a: i64, b: i64) -> Result<Int40, Spoil>
 #[tactic(auto, using(crate::proofs::Powers::zero_power, crate::proofs::Powers::one_power, crate::proofs::Powers::large_power))]
 fn large_power(a: i64, b: i64) -> Result<Int40, Spoil>
     requires { pos 64 <ℤ b }
-    ensures { result ≡ held (int_pow a (nat_abs b)) }
+    ensures { result ≡ in_range_or_spill (int_pow a (nat_abs b)) }
 {
     if a == 0 {
         return Ok(Int40 { n: 0 });

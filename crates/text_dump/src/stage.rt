@@ -1,6 +1,6 @@
 // Drives passes over a text and prints what comes of it.
 ghost use Rattle.std.specs.Prelude.{◌≡◌, ◌≤◌, [], IfOk, true, false};
-ghost use Rattle.gier_text.specs.Kept.{kept, fresh};
+ghost use Rattle.gier_text.specs.TablesModel.{tables_model, fresh};
 
 use crate::input::{Symbols, text_of};
 use crate::object::show_object;
@@ -77,7 +77,7 @@ pub fn show_tape(rt: &HostRuntime, bytes: Vec<u8>) -> io::Result<()> {
 }
 
 fn is_clean(tables: &Tables) -> bool
-    ensures { result ≡ true → (kept tables.now).faults ≡ [] }
+    ensures { result ≡ true → (tables_model tables.now).faults ≡ [] }
 {
     tables.faults() == 0
 }
@@ -99,11 +99,11 @@ fn drive_pass(
     way: Way,
     tables: &mut Tables,
 ) -> Result<ListText, PassStop>
-    requires cleared { kept tables.old ≡ fresh (kept tables.old).limit }
-    requires bytes { bytes ≤ (kept tables.old).limit }
+    requires cleared { tables_model tables.old ≡ fresh (tables_model tables.old).limit }
+    requires bytes { bytes ≤ (tables_model tables.old).limit }
     requires writing { input.old.rewound ≡ false }
     ensures writing { IfOk result (λ text. text.rewound ≡ false) }
-    ensures limit { (kept tables.new).limit ≡ (kept tables.old).limit }
+    ensures limit { (tables_model tables.new).limit ≡ (tables_model tables.old).limit }
 {
     match number {
         2 => run(alloc, &mut Pass2::open(tables, bytes), input, way, tables),
@@ -127,7 +127,7 @@ fn run<P: Pass>(
     requires stands { P.stands pass.old tables.old [] [] }
     requires writing { input.old.rewound ≡ false }
     ensures writing { IfOk result (λ text. text.rewound ≡ false) }
-    ensures limit { (kept tables.new).limit ≡ (kept tables.old).limit }
+    ensures limit { (tables_model tables.new).limit ≡ (tables_model tables.old).limit }
 {
     let mut output = ListText::open(alloc);
     match input.rewind(&mut (), way) {

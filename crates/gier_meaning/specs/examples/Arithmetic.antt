@@ -4,7 +4,7 @@ use Rattle.gier_tree.specs.Trees.{MkNames, Add, Subtract, Multiply, Divide, Less
 use Rattle.gier_word.specs.declared.alarm.Alarm.TheVariants.{Spill, Division, Power, Character, Data}
 use Rattle.gier_meaning.specs.Live.{InProgram, InBlock}
 use Rattle.gier_meaning.specs.Outcome.{Alarmed}
-use Rattle.gier_meaning.specs.Told.{Ended, Stopped}
+use Rattle.gier_meaning.specs.Observation.{Ended, Stopped}
 use Rattle.gier_meaning.specs.Example.{Example, told_as, live, stop_at, name, byte, integer_word, boolean_word, simple_expr, implication_expr, disjunction_expr, conjunction_expr, negation_expr, relation_expr, sum_expr, term_expr, factor_expr, number, alone, plainly}
 
 --     _begin _integer a; a := 1+2*3; outinteger(a) _end

@@ -4,7 +4,7 @@ use Rattle.gier_tree.specs.Trees.{MkNames, MkPair, MkSegment, Add, Subtract, Mul
 use Rattle.gier_word.specs.declared.alarm.Alarm.TheVariants.{Bounds, Subscript, Stack}
 use Rattle.gier_meaning.specs.Live.{InProgram, InBlock, InProcedure}
 use Rattle.gier_meaning.specs.Outcome.{Alarmed}
-use Rattle.gier_meaning.specs.Told.{Ended, Stopped}
+use Rattle.gier_meaning.specs.Observation.{Ended, Stopped}
 use Rattle.gier_meaning.specs.Example.{Example, told_as, live, stop_at, name, comma_name, integer_word, boolean_word, conjunction_expr, negation_expr, relation_expr, sum_expr, term_expr, number, alone, plainly}
 
 --     _begin _integer i; _for i := 1, 2 _do _begin _integer a; outinteger(a); a := 7 _end _end

@@ -4,7 +4,7 @@ use Rattle.gier_tree.specs.Trees.{MkNames, MkPair, MkSegment, Add, Subtract, Mul
 use Rattle.gier_word.specs.declared.alarm.Alarm.TheVariants.{Assignment}
 use Rattle.gier_meaning.specs.Live.{InProgram, InBlock, InProcedure, InEvaluation}
 use Rattle.gier_meaning.specs.Outcome.{Alarmed}
-use Rattle.gier_meaning.specs.Told.{Ended, Stopped}
+use Rattle.gier_meaning.specs.Observation.{Ended, Stopped}
 use Rattle.gier_meaning.specs.Example.{Example, told_as, live, stop_at, name, comma_name, label_place, integer_word, boolean_word, negation_expr, relation_expr, sum_expr, term_expr, number, alone, plainly}
 
 --     _begin _integer i;

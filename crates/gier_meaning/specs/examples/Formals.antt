@@ -4,7 +4,7 @@ use Rattle.gier_tree.specs.Trees.{MkNames, MkPair, MkSegment, Add, Subtract, Les
 use Rattle.gier_word.specs.declared.alarm.Alarm.TheVariants.{Parameters}
 use Rattle.gier_meaning.specs.Live.{InProgram, InBlock, InProcedure}
 use Rattle.gier_meaning.specs.Outcome.{Alarmed}
-use Rattle.gier_meaning.specs.Told.{Ended, Stopped}
+use Rattle.gier_meaning.specs.Observation.{Ended, Stopped}
 use Rattle.gier_meaning.specs.Example.{Example, told_as, live, stop_at, name, comma_name, byte, label_place, integer_word, boolean_word, conjunction_expr, negation_expr, relation_expr, sum_expr, number, alone, plainly}
 
 --     _begin _integer _array a[1:2]; _procedure p(b, i); _value i; _integer _array b; _integer i; b[i] := b[i] + i; p(a, 2); p(a, 2); outinteger(a[2]) _end

@@ -1,7 +1,7 @@
 -- Label formals, switches, and what is undefined (Report 3.5, 4.3.5, 5.3).
 use Rattle.std.specs.Prelude.{[], ◌∷◌, codes, Some, None, true, false}
 use Rattle.gier_tree.specs.Trees.{MkNames, Add, Subtract, EqualTo, IfExpr, OneImplication, OneDisjunction, OneConjunction, OneNegation, OneRelation, OneArithmetic, Compared, OneTerm, Summed, OneFactor, OnePrimary, Numeral, Logical, Bracketed, OneCall, OneElement, Alone, WithActuals, Subscripted, OneExpr, NoActuals, MoreActuals, NoExprs, MoreExprs, only, NoFormals, FormalList, NoValues, ValueList, ValueSpec, LabelSpec, SwitchSpec, MkHeading, OneName, DeclareType, DeclareSwitch, DeclareProcedure, NoDeclarations, MoreDeclarations, MkBlock, MkCompound, NoStatements, MoreStatements, OneUnconditional, OneConditional, MkUnconditional, OneGroup, Assign, Jump, CallStatement, IfThen, MkProgram}
-use Rattle.gier_meaning.specs.Told.{Ended}
+use Rattle.gier_meaning.specs.Observation.{Ended}
 use Rattle.gier_meaning.specs.Example.{Example, told_as, name, comma_name, label_place, integer_word, relation_expr, sum_expr, number, alone, plainly}
 
 --     _begin _switch s := L, M; _goto s[0]; outchar(97); _goto s[3]; outchar(98); _goto s[2]; outchar(99); L: outchar(100); M: outchar(101) _end

@@ -4,7 +4,7 @@ use Rattle.gier_tree.specs.Trees.{MkNames, MkPair, MkSegment, Add, Subtract, Mul
 use Rattle.gier_word.specs.declared.alarm.Alarm.TheVariants.{Spill}
 use Rattle.gier_meaning.specs.Live.{InProgram, InBlock}
 use Rattle.gier_meaning.specs.Outcome.{Alarmed, NoStepLeft}
-use Rattle.gier_meaning.specs.Told.{Ended, Stopped}
+use Rattle.gier_meaning.specs.Observation.{Ended, Stopped}
 use Rattle.gier_meaning.specs.Example.{Example, told_as, live, stop_at, name, comma_name, label_place, integer_word, relation_expr, sum_expr, number, alone, plainly}
 
 --     _begin _integer i, s; _for i := 1 _step 1 _until 3, 20, i + 1 _while i < 23 _do s := s + i; outinteger(s); outinteger(i) _end

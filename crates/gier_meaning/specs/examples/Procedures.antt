@@ -1,7 +1,7 @@
 -- Procedures, functions, formals by value, recursion (Report 4.7, 5.4).
 use Rattle.std.specs.Prelude.{[], ◌∷◌, codes, Some, None, true, false}
 use Rattle.gier_tree.specs.Trees.{MkNames, MkPair, MkSegment, Add, Subtract, LessThan, EqualTo, MoreThan, IfExpr, OneImplication, OneDisjunction, OneConjunction, OneNegation, Both, OneRelation, OneArithmetic, Compared, OneTerm, Summed, OneFactor, OnePrimary, Numeral, Logical, OneCall, OneElement, Alone, WithActuals, Subscripted, OneExpr, NoActuals, MoreActuals, NoExprs, only, NoFormals, FormalList, NoValues, ValueList, ValueSpec, MkHeading, OneName, LeftElement, DeclareType, DeclareArrays, DeclareProcedure, NoDeclarations, MoreDeclarations, MkBlock, MkCompound, NoStatements, MoreStatements, OneUnconditional, OneConditional, MkUnconditional, OneGroup, Assign, Jump, CallStatement, IfThen, MkProgram}
-use Rattle.gier_meaning.specs.Told.{Ended}
+use Rattle.gier_meaning.specs.Observation.{Ended}
 use Rattle.gier_meaning.specs.Example.{Example, told_as, name, comma_name, label_place, integer_word, boolean_word, conjunction_expr, relation_expr, sum_expr, number, alone, plainly}
 
 --     _begin _integer a; _procedure p(x); _value x; _integer x; _begin x := x + 1; outinteger(x) _end; a := 4; p(a); outinteger(a) _end

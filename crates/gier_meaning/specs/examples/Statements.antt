@@ -1,7 +1,7 @@
 -- Assignments, conditional statements and go to (Report 4.2, 4.3, 4.5).
 use Rattle.std.specs.Prelude.{[], ◌∷◌, codes, Some, None, false}
 use Rattle.gier_tree.specs.Trees.{MkNames, MkPair, MkSegment, Add, LessThan, EqualTo, MoreThan, Compared, OneTerm, Summed, OneFactor, OnePrimary, Numeral, Logical, OneCall, OneElement, Alone, WithActuals, Subscripted, OneExpr, NoActuals, NoExprs, only, NoFormals, NoValues, MkHeading, OneName, LeftElement, DeclareType, DeclareArrays, DeclareProcedure, NoDeclarations, MoreDeclarations, MkBlock, MkCompound, NoStatements, MoreStatements, OneUnconditional, OneConditional, MkUnconditional, OneGroup, Assign, Jump, CallStatement, Dummy, IfThen, IfElse, MkProgram}
-use Rattle.gier_meaning.specs.Told.{Ended}
+use Rattle.gier_meaning.specs.Observation.{Ended}
 use Rattle.gier_meaning.specs.Example.{Example, told_as, name, comma_name, label_place, integer_word, relation_expr, sum_expr, number, alone, plainly}
 
 --     _begin _integer c; _integer _array a, b[1:3]; _integer _procedure f; _begin c := c + 1; f := c _end;

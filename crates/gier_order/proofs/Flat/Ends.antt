@@ -6,7 +6,7 @@ use Rattle.std.proofs.lemmas.Bool.{cases_lt}
 use Rattle.std.proofs.lemmas.Option.{slice_get_past}
 use Rattle.gier_order.specs.Flat.Row.{Regs, Step, On, Ends, Odd, Row, on_word}
 use Rattle.gier_order.specs.Flat.Rows.{row}
-use Rattle.gier_order.specs.Flat.Run.{Move, More, Last, Outcome, Over, Unfinished, then_on, exec, State, Final, with_row, moved, one, great, small, rounds, enough, begun, flat, report_of, final_of}
+use Rattle.gier_order.specs.Flat.Run.{Move, More, Last, Outcome, Over, Unfinished, then_on, exec, State, Final, with_row, next_state, one, great, small, rounds, enough, initial_state, flat, report_of, final_of}
 use Rattle.gier_order.proofs.Flat.Falls.{Lowers, Falls, row_falls}
 
 module _ {M F : Type 0} (one : M → Move M F) where
@@ -93,7 +93,7 @@ module _ (code : List ℕ) (size : ℕ) where
   same_of : (move : Move State Final) (s1 : State) → move ≡ More s1 → Same move s1
   same_of move s1 e = subst (λ move. Same move s1) (sym e) refl
 
-  moved_falls : (s s1 : State) (r : Row) (step : Step) → IsAt s.regs step → Falls s.regs step → Same (moved code s r step) s1 → (great s1 < great s) ⊎ ((great s1 ≤ great s) × (small code s1 < small code s))
+  moved_falls : (s s1 : State) (r : Row) (step : Step) → IsAt s.regs step → Falls s.regs step → Same (next_state code s r step) s1 → (great s1 < great s) ⊎ ((great s1 ≤ great s) × (small code s1 < small code s))
   moved_falls s s1 r (On m1) at falls same = subst (λ t. (great t < great s) ⊎ ((great t ≤ great s) × (small code t < small code s))) same (lowered s (with_row s r m1) at falls)
   moved_falls s s1 r (Ends ending m1) at falls same = absurd same
   moved_falls s s1 r Odd at falls same = absurd same
@@ -113,5 +113,5 @@ module _ (code : List ℕ) (size : ℕ) where
   pub run_same : (j : ℕ) (s : State) (final : Final) → exec (one code size) j s ≡ Over final → exec (one code size) (enough code s) s ≡ Over final
   run_same j s final e = same_end (one code size) (length code) great (small code) within one_falls (enough code s) j s final (omega arith) e
 
-  pub flat_is : (start : ℕ) (input : List ℕ) (steps j : ℕ) (final : Final) → exec (one code size) j (begun start input steps) ≡ Over final → flat code start input steps size ≡ report_of steps final
-  flat_is start input steps j final e = ap (λ o. report_of steps (final_of (begun start input steps) o)) (run_same j (begun start input steps) final e)
+  pub flat_is : (start : ℕ) (input : List ℕ) (steps j : ℕ) (final : Final) → exec (one code size) j (initial_state start input steps) ≡ Over final → flat code start input steps size ≡ report_of steps final
+  flat_is start input steps j final e = ap (λ o. report_of steps (final_of (initial_state start input steps) o)) (run_same j (initial_state start input steps) final e)

@@ -16,7 +16,7 @@ use Rattle.gier_order.specs.declared.operation.Operation.TheVariants.{Start, Sto
 use Rattle.gier_order.specs.Flat.Row.{Regs, Ending, Alarmed, Step, On, Ends, Odd, Row, plain, odd, needs, behind_ref, behind_bytes, on_word, reads, Entry, NoRoom, Enters, entry}
 use Rattle.gier_order.specs.Flat.Region.{put}
 use Rattle.gier_order.specs.Flat.Arrays.{elements, offset}
-use Rattle.gier_order.specs.Flat.Kinds.{groups_for, has_formals, handed, Handed, Bare, Kinded, Neither}
+use Rattle.gier_order.specs.Flat.Kinds.{groups_for, has_formals, formals_handed, Handed, Bare, Kinded, Neither}
 use Rattle.gier_order.specs.Flat.Rows
 
 -- the first number, and what a step of a row does to it from these registers
@@ -293,7 +293,7 @@ module _ (code : List ℕ) (size : ℕ) (m : Regs) where
   effect_f Index l a = needs_same _ _ (element_f l (m.words (m.base + a)) (m.base + a + 1))
   effect_f Proc l a = odd_f
   effect_f Call l a = reads_procedure_f a _ (λ head count. in_level_f l _ (λ outer. enters_f head.level head.address outer (m.base + m.r) count (a + 2)))
-  effect_f Formal l a = cell_word_f l a _ (λ place k. reads_order_f k _ (λ head. calls_bare_f k (place + 1) head (handed head)))
+  effect_f Formal l a = cell_word_f l a _ (λ place k. reads_order_f k _ (λ head. calls_bare_f k (place + 1) head (formals_handed head)))
   effect_f Return l a = needs_same _ _ (if_f _ _ _ (word_at_f (m.base + 5) _ (λ value. leaves_f value)) (leaves_f m.r))
   effect_f Thunk l a = odd_f
   effect_f Value l a = cell_pair_f l a _ (λ k outer. evaluates_f k outer Rows.for_value)
@@ -309,9 +309,9 @@ module _ (code : List ℕ) (size : ℕ) (m : Regs) where
   effect_f Go l a = if_f _ _ _ (on_f m calm) (word_at_f (m.q + 2) _ (λ top. needs_same (nat_le top size && nat_lt m.r (length code)) _ (pays_f m.left m.r (record m { base = m.q; top = top; greatest = max m.greatest top }) refl (omega arith))))
   effect_f Base l a = if_f _ _ _ (gives_f _) (in_level_f l _ (λ b. gives_f b))
   effect_f Kinds l a = odd_f
-  effect_f Agree l a = reads_f (m.place + 1) _ (λ count. cell_word_f l a _ (λ place k. reads_order_f k _ (λ head. agrees_with_f k (m.place + 1 + 1) count (handed head) (omega arith))))
-  effect_f ByVal l a = cell_word_f l a _ (λ place k. reads_order_f k _ (λ head. looks_in_f k (handed head)))
-  effect_f CallF l a = cell_word_f l a _ (λ place k. reads_order_f k _ (λ kinds. calls_kinded_f (place + 1) kinds (handed kinds)))
+  effect_f Agree l a = reads_f (m.place + 1) _ (λ count. cell_word_f l a _ (λ place k. reads_order_f k _ (λ head. agrees_with_f k (m.place + 1 + 1) count (formals_handed head) (omega arith))))
+  effect_f ByVal l a = cell_word_f l a _ (λ place k. reads_order_f k _ (λ head. looks_in_f k (formals_handed head)))
+  effect_f CallF l a = cell_word_f l a _ (λ place k. reads_order_f k _ (λ kinds. calls_kinded_f (place + 1) kinds (formals_handed kinds)))
 
   does_f : (order : Order) (operation : Option Operation) → F (Rows.does code size m order operation)
   does_f order None = odd_f

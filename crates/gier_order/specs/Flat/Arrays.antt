@@ -5,15 +5,15 @@ use Rattle.std.specs.Prelude.{◌+◌, ◌-◌, ◌*◌, ◌&&◌, ℕ, zero, su
 abbrev pub half : ℕ
 half = 549755813888
 
-abbrev pub lifted : ℕ → ℕ
-lifted word = if nat_lt word half then word + half else word - half
+abbrev pub excess_number : ℕ → ℕ
+excess_number word = if nat_lt word half then word + half else word - half
 
 -- the i-th of a list of pairs of bounds from a place on
 abbrev pub lower : (ℕ → ℕ) → (at i : ℕ) → ℕ
-lower words at i = lifted (words (at + 2 * i))
+lower words at i = excess_number (words (at + 2 * i))
 
 abbrev pub upper : (ℕ → ℕ) → (at i : ℕ) → ℕ
-upper words at i = lifted (words (at + 2 * i + 1))
+upper words at i = excess_number (words (at + 2 * i + 1))
 
 abbrev pub extent : (ℕ → ℕ) → (at i : ℕ) → ℕ
 extent words at i = upper words at i - lower words at i + 1
@@ -30,7 +30,7 @@ elements words at (suc d) = elements words at d * extent words at d
 
 -- the i-th subscript from a place on
 abbrev pub subscript : (ℕ → ℕ) → (from i : ℕ) → ℕ
-subscript words from i = lifted (words (from + i))
+subscript words from i = excess_number (words (from + i))
 
 -- whether each of d subscripts lies within its bounds
 abbrev pub are_within : (ℕ → ℕ) → (at from d : ℕ) → Bool

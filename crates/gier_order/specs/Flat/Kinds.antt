@@ -29,8 +29,8 @@ pub data Handed : Type 0 where
   Neither : Handed
 
 -- PROC, or KINDS with 1 to 80 formals
-abbrev pub handed : Order → Handed
-handed order =
+abbrev pub formals_handed : Order → Handed
+formals_handed order =
     if is_a Proc order then Bare
     else (if is_a Kinds order && (nat_le 1 order.level && nat_le order.level 80) then Kinded order.level else Neither)
 

@@ -15,12 +15,12 @@ abbrev pub is_within : (at n q : ℕ) → Bool
 is_within at n q = nat_le at q && nat_lt q (at + n)
 
 -- n words from a place on made 0
-abbrev pub cleared : (ℕ → ℕ) → (at n : ℕ) → ℕ → ℕ
-cleared words at n q = elim (is_within at n q) as (λ _. ℕ) [ true ↦ 0 | false ↦ words q ]
+abbrev pub cleared_words : (ℕ → ℕ) → (at n : ℕ) → ℕ → ℕ
+cleared_words words at n q = elim (is_within at n q) as (λ _. ℕ) [ true ↦ 0 | false ↦ words q ]
 
 -- n words from a place on made those that `source` has from another place on
-abbrev pub copied : (ℕ → ℕ) → (at : ℕ) → (source : ℕ → ℕ) → (from n : ℕ) → ℕ → ℕ
-copied words at source from n q = elim (is_within at n q) as (λ _. ℕ) [ true ↦ source (from + (q - at)) | false ↦ words q ]
+abbrev pub with_copy : (ℕ → ℕ) → (at : ℕ) → (source : ℕ → ℕ) → (from n : ℕ) → ℕ → ℕ
+with_copy words at source from n q = elim (is_within at n q) as (λ _. ℕ) [ true ↦ source (from + (q - at)) | false ↦ words q ]
 
 -- two words side by side
 abbrev pub with_pair : (ℕ → ℕ) → (at first second : ℕ) → ℕ → ℕ
@@ -31,8 +31,8 @@ abbrev pub with_header : (ℕ → ℕ) → (at old level outer end : ℕ) → �
 with_header words at old level outer end = put (with_pair words at old (level * level_unit + outer)) (at + 2) end
 
 -- a new activation at a place: its words are 0, and it has a header
-abbrev pub opened : (ℕ → ℕ) → (at old level outer room : ℕ) → ℕ → ℕ
-opened words at old level outer room = with_header (cleared words at room) at old level outer (at + room)
+abbrev pub with_activation : (ℕ → ℕ) → (at old level outer room : ℕ) → ℕ → ℕ
+with_activation words at old level outer room = with_header (cleared_words words at room) at old level outer (at + room)
 
 abbrev pub level_in : ℕ → ℕ
 level_in word = word / level_unit

@@ -14,9 +14,9 @@ use Rattle.gier_order.specs.Table.{operation_at}
 use Rattle.gier_order.specs.declared.order.Order.{Order}
 use Rattle.gier_order.specs.declared.operation.Operation.{Operation}
 use Rattle.gier_order.specs.declared.operation.Operation.TheVariants.{Start, Stop, Take, Short, Long, Keep, Addr, Fetch, Put, Add, Sub, Mul, Div, Pow, Neg, Lt, Le, Eq, Ge, Gt, Ne, Not, And, Or, Impl, Equiv, Jump, False, Test, Turn, Block, Leave, Array, Index, Proc, Call, Formal, Return, Thunk, Value, Place, NameL, Pass, Back, Give, Lib, Switch, SwForm, Lab, Go, Base, Kinds, Agree, ByVal, CallF}
-use Rattle.gier_order.specs.Flat.Region.{put, cleared, copied, with_pair, opened, seek}
+use Rattle.gier_order.specs.Flat.Region.{put, cleared_words, with_copy, with_pair, with_activation, seek}
 use Rattle.gier_order.specs.Flat.Row.{Regs, Ending, Ended, Alarmed, NoSteps, On, Ends, Row, plain, odd, needs, behind_bytes, reads, Entry, NoStep, NoRoom, Enters, entry}
-use Rattle.gier_order.specs.Flat.Kinds.{groups_for, group, is_a, Handed, Bare, Kinded, Neither, handed, has_formals, is_packed, all_fit}
+use Rattle.gier_order.specs.Flat.Kinds.{groups_for, group, is_a, Handed, Bare, Kinded, Neither, formals_handed, has_formals, is_packed, all_fit}
 use Rattle.gier_order.specs.Flat.Arrays.{are_ordered, elements, are_within, offset}
 
 -- 1 for true
@@ -31,9 +31,9 @@ abbrev pub are_equal : ℤ → ℤ → Bool
 are_equal a b = int_le a b && int_le b a
 
 -- the subscript of a switch with so many elements, where it is one
-abbrev pub chosen : ℤ → ℕ → Option ℕ
-chosen (pos n) count = if nat_le 1 n && nat_le n count then Some n else None
-chosen (negsuc n) count = None
+abbrev pub element_index : ℤ → ℕ → Option ℕ
+element_index (pos n) count = if nat_le 1 n && nat_le n count then Some n else None
+element_index (negsuc n) count = None
 
 -- the five bytes of a word of a string, the first in its highest bits
 abbrev pub bytes_of : ℕ → List ℕ
@@ -145,7 +145,7 @@ module _ (code : List ℕ) (size : ℕ) (m : Regs) where
   -- the registers in a new activation
   abbrev pub inside : (level room outer mark : ℕ) → (left greatest end : ℕ) → Regs
   inside level room outer mark left greatest end = record m {
-    words = opened m.words m.top m.base level outer room;
+    words = with_activation m.words m.top m.base level outer room;
     marks = put m.marks m.top mark;
     base = m.top;
     top = end;
@@ -157,7 +157,7 @@ module _ (code : List ℕ) (size : ℕ) (m : Regs) where
   -- the same for one that returns, with the order to return to, what is wanted, and the actuals from a place on
   abbrev pub called : (level room outer wanted from count : ℕ) → (left greatest end : ℕ) → Regs
   called level room outer wanted from count left greatest end = record (inside level room outer 1 left greatest end) {
-    words = copied (with_pair (opened m.words m.top m.base level outer room) (m.top + 3) next wanted) (m.top + 5 + count % 2) m.words from (count / 2 * 2);
+    words = with_copy (with_pair (with_activation m.words m.top m.base level outer room) (m.top + 3) next wanted) (m.top + 5 + count % 2) m.words from (count / 2 * 2);
   }
 
   abbrev pub taken_by : Entry → (ℕ → ℕ → ℕ → Row) → Row
@@ -220,7 +220,7 @@ module _ (code : List ℕ) (size : ℕ) (m : Regs) where
 
   abbrev pub first_activation : ℕ → ℕ → Regs
   first_activation l a = record m {
-    words = opened m.words 0 0 l 0 a;
+    words = with_activation m.words 0 0 l 0 a;
     marks = put m.marks 0 0;
     base = 0;
     top = a;
@@ -231,7 +231,7 @@ module _ (code : List ℕ) (size : ℕ) (m : Regs) where
 
   -- the stack with an array's elements and its descriptor: the first element's place, d, and the bounds
   abbrev pub described : (d at from count : ℕ) → ℕ → ℕ
-  described d at from count = copied (with_pair (cleared m.words m.top count) at m.top d) (at + 2) m.words from (2 * d)
+  described d at from count = with_copy (with_pair (cleared_words m.words m.top count) at m.top d) (at + 2) m.words from (2 * d)
 
   abbrev pub with_array : (d at from count : ℕ) → Regs
   with_array d at from count = record m {
@@ -317,7 +317,7 @@ module _ (code : List ℕ) (size : ℕ) (m : Regs) where
   chooses table outer (Some n) = reads code (table + n) (λ a. evaluates a outer for_label)
 
   abbrev pub switches : (table outer : ℕ) → Row
-  switches table outer = reads code table (λ count. chooses table outer (chosen (int_of_word m.r) count))
+  switches table outer = reads code table (λ count. chooses table outer (element_index (int_of_word m.r) count))
 
   -- Formal procedures
 
@@ -403,7 +403,7 @@ module _ (code : List ℕ) (size : ℕ) (m : Regs) where
   effect Index l a = needs (is_index l a) (element l (m.words (m.base + a)) (m.base + a + 1))
   effect Proc l a = odd
   effect Call l a = reads_procedure a (λ head count. in_level l (λ outer. enters head.level head.address outer (m.base + m.r) count (a + 2)))
-  effect Formal l a = cell_word l a (λ place k. reads_order k (λ head. calls_bare k (place + 1) head (handed head)))
+  effect Formal l a = cell_word l a (λ place k. reads_order k (λ head. calls_bare k (place + 1) head (formals_handed head)))
   effect Return l a = needs (nat_le a 1) (if a == 1 then local 5 (λ value. leaves value) else leaves m.r)
   effect Thunk l a = odd
   effect Value l a = cell_pair l a (λ k outer. evaluates k outer for_value)
@@ -422,9 +422,9 @@ module _ (code : List ℕ) (size : ℕ) (m : Regs) where
       needs (nat_le top size && is_address m.r) (pays m.left m.r (record m { base = m.q; top = top; greatest = max m.greatest top })))
   effect Base l a = if l == 0 then gives m.base else in_level l (λ b. gives b)
   effect Kinds l a = odd
-  effect Agree l a = reads code next (λ count. cell_word l a (λ place k. reads_order k (λ head. agrees_with k (next + 1) count (handed head))))
-  effect ByVal l a = cell_word l a (λ place k. reads_order k (λ head. looks_in k (handed head)))
-  effect CallF l a = cell_word l a (λ place k. reads_order k (λ kinds. calls_kinded (place + 1) kinds (handed kinds)))
+  effect Agree l a = reads code next (λ count. cell_word l a (λ place k. reads_order k (λ head. agrees_with k (next + 1) count (formals_handed head))))
+  effect ByVal l a = cell_word l a (λ place k. reads_order k (λ head. looks_in k (formals_handed head)))
+  effect CallF l a = cell_word l a (λ place k. reads_order k (λ kinds. calls_kinded (place + 1) kinds (formals_handed kinds)))
 
   -- there is an activation, or the order is START
   abbrev pub does : Order → Option Operation → Row

@@ -38,14 +38,14 @@ abbrev pub with_row : State → Row → Regs → State
 with_row s row m = record { regs = m; refs = s.refs ++ row.refs; printed = s.printed ++ row.printed }
 
 -- An order that is spoilt changes nothing, and what it read stays read.
-abbrev pub moved : List ℕ → State → Row → Step → Move State Final
-moved code s row (On m) = More (with_row s row m)
-moved code s row (Ends ending m) = Last (record { ending = ending; state = with_row s row m })
-moved code s row Odd = Last (record { ending = Spoilt s.regs.place (slice_index code s.regs.place); state = with_row s row s.regs })
+abbrev pub next_state : List ℕ → State → Row → Step → Move State Final
+next_state code s row (On m) = More (with_row s row m)
+next_state code s row (Ends ending m) = Last (record { ending = ending; state = with_row s row m })
+next_state code s row Odd = Last (record { ending = Spoilt s.regs.place (slice_index code s.regs.place); state = with_row s row s.regs })
 
 -- one order of an object, over a stack with so many words
 abbrev pub one : List ℕ → ℕ → State → Move State Final
-one code size s = moved code s (row code size s.regs) (row code size s.regs).step
+one code size s = next_state code s (row code size s.regs) (row code size s.regs).step
 
 -- Every entry but START costs a step, every return lowers the depth, and all other orders go forward but TURN and GO,
 -- which cost a step. So an order lowers the first of these numbers, or it lowers the second one and doesn't raise the first.
@@ -64,8 +64,8 @@ abbrev pub enough : List ℕ → State → ℕ
 enough code s = suc (rounds (length code) (suc (great s)))
 
 -- all registers and words begin as 0
-abbrev pub begun : (start : ℕ) → List ℕ → (steps : ℕ) → State
-begun start input steps = record {
+abbrev pub initial_state : (start : ℕ) → List ℕ → (steps : ℕ) → State
+initial_state start input steps = record {
   regs = record {
     place = start;
     r = 0;
@@ -116,4 +116,4 @@ final_of s Unfinished = record { ending = Spoilt s.regs.place 0; state = s }
 -- the flat run of an object from a start, with these data, so many steps and so many stack words
 abbrev pub flat : List ℕ → (start : ℕ) → List ℕ → (steps size : ℕ) → Report
 flat code start input steps size =
-    report_of steps (final_of (begun start input steps) (exec (one code size) (enough code (begun start input steps)) (begun start input steps)))
+    report_of steps (final_of (initial_state start input steps) (exec (one code size) (enough code (initial_state start input steps)) (initial_state start input steps)))

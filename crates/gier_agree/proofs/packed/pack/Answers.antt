@@ -1,5 +1,5 @@
 use Rattle.std.proofs.Common.{◌≡◌, ◌<◌, ◌^◌, ap, ◌∙◌, arith}
-use Rattle.gier_agree.specs.Packed.{first_kinds, packed, kind_in}
+use Rattle.gier_agree.specs.Packed.{first_kinds, kinds_word, kind_in}
 use Rattle.gier_agree.proofs.PackedKinds.{all_digits, fits_word, kinds_back}
 use Rattle.gier_agree.proofs.packed.pack.Goals as goal
 
@@ -14,7 +14,7 @@ overflow_add-word c =
     omega arith
 
 pub returns-clause-value : goal.returns-clause-value
-unfolding packed
+unfolding kinds_word
 returns-clause-value c =
     let end : c.loop-at.at ≡ 10 = omega arith in
     c.loop-at.invariant ∙ ap (λ n. first_kinds n c.args.kinds.now) end

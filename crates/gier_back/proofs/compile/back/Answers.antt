@@ -1,5 +1,5 @@
 use Rattle.std.proofs.Common.{◌≡◌, ◌∙◌, ◌+◌, ◌*◌, ap, sym, arith, refl, Err}
-use Rattle.gier_text.proofs.Driven.{risen_from}
+use Rattle.gier_text.proofs.DriveLoop.{risen_from}
 use Rattle.gier_back.specs.Compiled.{IsNoObject}
 use Rattle.gier_text.specs.Own.{found_on}
 use Rattle.gier_back.proofs.Stages.{changes_more, told_on, text_same, some_same, err_drum, only_drum, drum_or_as, made_from}

@@ -1,7 +1,7 @@
 use Rattle.std.proofs.Common.{◌∙◌, arith, reverse}
 use Rattle.gier_areas.specs.Areas.{words_of}
-use Rattle.gier_pass9.specs.Written.{IsWrong}
-use Rattle.gier_text.specs.Kept.{kept}
+use Rattle.gier_pass9.specs.PassOutput.{IsWrong}
+use Rattle.gier_text.specs.TablesModel.{tables_model}
 use Rattle.gier_back.proofs.Stages.{grows_more, tracks_wider, tracks_both, drum_or, left_back, made_of, same_behind, same_before, same_both}
 use Rattle.gier_back.proofs.compile.nine.Goals as goal
 
@@ -28,7 +28,7 @@ returns-clause-sound g c = λ list held.
 pub returns-clause-made : goal.returns-clause-made
 returns-clause-made g c = λ list held.
     let left = left_back _ list _ held c.in-Ok.ensures.rewound.left in
-    made_of _ (kept c.args.tables.now).limit 1258298 (g.D.Drum.tracks c.write.new.drum) (reverse list) c.write.result left (rw c.object_track.ensures at c.write.ensures.made)
+    made_of _ (tables_model c.args.tables.now).limit 1258298 (g.D.Drum.tracks c.write.new.drum) (reverse list) c.write.result left (rw c.object_track.ensures at c.write.ensures.made)
 
 pub returns-clause-area : goal.returns-clause-area
 returns-clause-area g c =

@@ -1,7 +1,7 @@
 use Rattle.std.proofs.Common.{◌∙◌, arith, refl, sym, subst}
 use Rattle.gier_back.proofs.Stages.{grows_more, tracks_wider, tracks_both, on_ok}
 use Rattle.gier_text.specs.View.{View, Rewinds}
-use Rattle.gier_text.proofs.Driven.{apart_as, apart_back}
+use Rattle.gier_text.proofs.DriveLoop.{apart_as, apart_back}
 use Rattle.gier_back.proofs.stage.run_pass.Goals as goal
 
 pub returns-clause-changes : goal.returns-clause-changes

@@ -1,6 +1,6 @@
 use Rattle.std.proofs.Common.{◌≡◌, ◌<◌, suc, ◌+◌, length, drop, arith}
 use Rattle.gier_best.specs.Plan.{farthest}
-use Rattle.gier_best.proofs.Held.{planned_at}
+use Rattle.gier_best.proofs.ReferenceStep.{planned_at}
 use Rattle.gier_best.proofs.planner.plan_reads.Goals as goal
 
 pub loop-at-preserved : goal.loop-at-preserved

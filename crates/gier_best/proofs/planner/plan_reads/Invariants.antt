@@ -1,5 +1,5 @@
 use Rattle.std.proofs.Common.{◌≡◌, ◌≤◌, length, vec_capacity}
-use Rattle.gier_best.proofs.Held.{HasPlanned}
+use Rattle.gier_best.proofs.ReferenceStep.{HasPlanned}
 use Rattle.gier_best.proofs.planner.plan_reads.Given as goal
 
 abbrev pub invariant-loop-at : goal.invariant-loop-at

@@ -1,5 +1,5 @@
 use Rattle.std.proofs.Common.{◌≡◌, ◌<◌, suc, ◌+◌, arith}
-use Rattle.gier_best.proofs.Held.{chosen_within, step_read, put_few}
+use Rattle.gier_best.proofs.ReferenceStep.{chosen_within, step_read, put_few}
 use Rattle.gier_best.proofs.planner.read.Goals as goal
 
 pub read-requires-clause-place : goal.read-requires-clause-place

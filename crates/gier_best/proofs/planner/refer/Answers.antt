@@ -1,4 +1,4 @@
-use Rattle.gier_best.proofs.Held.{step_kept}
+use Rattle.gier_best.proofs.ReferenceStep.{step_kept}
 use Rattle.gier_best.proofs.planner.refer.Goals as goal
 
 pub set_due-requires : goal.set_due-requires

@@ -1,4 +1,4 @@
-use Rattle.gier_copy.proofs.Whole.{same_meaning}
+use Rattle.gier_copy.proofs.WholeProgram.{same_meaning}
 use Rattle.gier_copy.proofs.law.law_copy.Goals as goal
 
 pub returns : goal.returns

@@ -2,7 +2,7 @@ use Rattle.std.proofs.Common.{ℕ, length}
 use Rattle.gier_order.specs.Flat.Row.{Row}
 use Rattle.gier_order.specs.Flat.Rows.{leaves}
 use Rattle.gier_exec.specs.Rows.{regs_of}
-use Rattle.gier_exec.proofs.Comings.{refused_halts}
+use Rattle.gier_exec.proofs.RowResults.{refused_halts}
 use Rattle.gier_exec.proofs.Leavings.{comes_as}
 use Rattle.gier_exec.proofs.activations.leave_evaluation.Goals as goal
 

@@ -1,12 +1,12 @@
 use Rattle.std.proofs.Common.{ℕ, ◌+◌, Ok, Err, length, ap, sym, ◌∙◌}
 use Rattle.gier_order.specs.Flat.Row.{Row}
 use Rattle.gier_order.specs.Flat.Rows.{word_at, reads_order, calls_kinded}
-use Rattle.gier_order.specs.Flat.Kinds.{handed}
+use Rattle.gier_order.specs.Flat.Kinds.{formals_handed}
 use Rattle.gier_exec.specs.Rows.{regs_of, code_in}
 use Rattle.gier_exec.specs.Calling.{entering}
 use Rattle.gier_exec.specs.declared.stop.Miss.TheVariants.{Stop as Stopped}
 use Rattle.gier_exec.specs.declared.activations.Entry.{Entry}
-use Rattle.gier_exec.proofs.Founds.{led}
+use Rattle.gier_exec.proofs.FrameReads.{led}
 use Rattle.gier_exec.proofs.Searches.{search_as, search_refused, search_other, search_found, search_stops, refused_stops}
 use Rattle.gier_exec.proofs.calls.find_compared.Goals as goal
 
@@ -16,7 +16,7 @@ returns-in-Err-clause-row g c = λ tracks input told agrees entered.
     let size = length c.args.frames.now.words in
     let m = c.args.m.now in
     let regs = regs_of m c.args.frames.now input in
-    let at : ℕ → ℕ → Row = λ place k. reads_order code size regs k (λ head. calls_kinded code size regs (place + 1) head (handed head)) in
+    let at : ℕ → ℕ → Row = λ place k. reads_order code size regs k (λ head. calls_kinded code size regs (place + 1) head (formals_handed head)) in
     search_refused _ _ _ regs (entering code size regs) c.in-Err.stop (c.in-Err.ensures.row code input m (λ place. word_at code size regs place (λ k. at place k)) entered)
 
 pub returns-in-Err-read-clause-row : goal.returns-in-Err-read-clause-row
@@ -25,7 +25,7 @@ returns-in-Err-read-clause-row g c = λ tracks input told agrees entered.
     let size = length c.args.frames.now.words in
     let m = c.args.m.now in
     let regs = regs_of m c.args.frames.now input in
-    let at : ℕ → ℕ → Row = λ place k. reads_order code size regs k (λ head. calls_kinded code size regs (place + 1) head (handed head)) in
+    let at : ℕ → ℕ → Row = λ place k. reads_order code size regs k (λ head. calls_kinded code size regs (place + 1) head (formals_handed head)) in
     search_refused _ _ _ regs (entering code size regs) c.in-Err-read.stop
     (led _ _ c.in-Err-read.stop (c.in-Ok.ensures.row code input m (λ place. word_at code size regs place (λ k. at place k)) entered)
     (c.in-Err-read.ensures.row code input m (λ k. at c.in-Ok.place k) entered))
@@ -36,7 +36,7 @@ returns-in-Err-find_kinded-clause-row g c = λ tracks input told agrees entered.
     let size = length c.args.frames.now.words in
     let m = c.args.m.now in
     let regs = regs_of m c.args.frames.now input in
-    let at : ℕ → ℕ → Row = λ place k. reads_order code size regs k (λ head. calls_kinded code size regs (place + 1) head (handed head)) in
+    let at : ℕ → ℕ → Row = λ place k. reads_order code size regs k (λ head. calls_kinded code size regs (place + 1) head (formals_handed head)) in
     let found : Entry → Row = λ e. word_at code size regs (c.in-Ok.place + 1) (λ outer. entering code size regs (record e { outer = outer; from = m.r })) in
     search_as _ _ _ _ _ regs (entering code size regs) (Err c.in-Err-find_kinded.miss)
     (c.in-Ok.ensures.row code input m (λ place. word_at code size regs place (λ k. at place k)) entered ∙ c.in-Ok-read.ensures.row code input m (λ k. at c.in-Ok.place k) entered)
@@ -49,7 +49,7 @@ returns-in-Ok-read-2-clause-row g c = λ tracks input told agrees entered.
     let m = c.args.m.now in
     let regs = regs_of m c.args.frames.now input in
     let e = c.in-Ok-find_kinded.entry in
-    let at : ℕ → ℕ → Row = λ place k. reads_order code size regs k (λ head. calls_kinded code size regs (place + 1) head (handed head)) in
+    let at : ℕ → ℕ → Row = λ place k. reads_order code size regs k (λ head. calls_kinded code size regs (place + 1) head (formals_handed head)) in
     let found : Entry → Row = λ e. word_at code size regs (c.in-Ok.place + 1) (λ outer. entering code size regs (record e { outer = outer; from = m.r })) in
     let made : Entry = record e { outer = c.in-Ok-read-2.outer; from = c.r.result } in
     search_as _ _ _ _ _ regs (entering code size regs) (Ok made)
@@ -65,7 +65,7 @@ returns-in-Err-read-2-clause-row g c = λ tracks input told agrees entered.
     let m = c.args.m.now in
     let regs = regs_of m c.args.frames.now input in
     let e = c.in-Ok-find_kinded.entry in
-    let at : ℕ → ℕ → Row = λ place k. reads_order code size regs k (λ head. calls_kinded code size regs (place + 1) head (handed head)) in
+    let at : ℕ → ℕ → Row = λ place k. reads_order code size regs k (λ head. calls_kinded code size regs (place + 1) head (formals_handed head)) in
     let found : Entry → Row = λ e. word_at code size regs (c.in-Ok.place + 1) (λ outer. entering code size regs (record e { outer = outer; from = m.r })) in
     search_as _ _ _ _ _ regs (entering code size regs) (Err (Stopped c.in-Err-read-2.stop))
     (c.in-Ok.ensures.row code input m (λ place. word_at code size regs place (λ k. at place k)) entered ∙ c.in-Ok-read.ensures.row code input m (λ k. at c.in-Ok.place k) entered)

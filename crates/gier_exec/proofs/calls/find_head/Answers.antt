@@ -5,7 +5,7 @@ use Rattle.gier_order.specs.declared.order.Order.{Order}
 use Rattle.gier_exec.specs.Rows.{code_in}
 use Rattle.gier_exec.specs.declared.activations.Entry.{Entry}
 use Rattle.gier_exec.proofs.Readings.{reads_joined}
-use Rattle.gier_exec.proofs.Reaching.{search_told}
+use Rattle.gier_exec.proofs.SearchReach.{search_told}
 use Rattle.gier_exec.proofs.Searches.{search_other, search_then}
 use Rattle.gier_exec.proofs.Callings.{search_head}
 use Rattle.gier_exec.proofs.calls.find_head.Goals as goal

@@ -9,7 +9,7 @@ use Rattle.gier_exec.specs.declared.activations.Entry.{Entry}
 use Rattle.gier_exec.specs.Rows.{code_in}
 use Rattle.gier_exec.specs.Calling.{entering}
 use Rattle.gier_exec.proofs.Readings.{reads_joined}
-use Rattle.gier_exec.proofs.Reaching.{search_told}
+use Rattle.gier_exec.proofs.SearchReach.{search_told}
 use Rattle.gier_exec.proofs.Searches.{search_as, search_other, search_then, search_found, search_stops}
 use Rattle.gier_exec.proofs.Callings.{kinded_go, kinded_made, kinded_is, kinded_other}
 use Rattle.gier_exec.proofs.calls.find_kinded.Goals as goal

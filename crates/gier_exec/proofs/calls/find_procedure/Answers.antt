@@ -5,7 +5,7 @@ use Rattle.gier_exec.specs.Rows.{regs_of, code_in}
 use Rattle.gier_exec.specs.Calling.{entering}
 use Rattle.gier_exec.specs.declared.stop.Miss.TheVariants.{Stop as Stopped}
 use Rattle.gier_exec.specs.declared.activations.Entry.{Entry}
-use Rattle.gier_exec.proofs.Founds.{led, base_only}
+use Rattle.gier_exec.proofs.FrameReads.{led, base_only}
 use Rattle.gier_exec.proofs.Searches.{search_as, search_other, search_found, search_stops, refused_stops}
 use Rattle.gier_exec.proofs.Callings.{call_go, call_made, call_enters}
 use Rattle.gier_exec.proofs.calls.find_procedure.Goals as goal

@@ -3,7 +3,7 @@ use Rattle.gier_names.specs.Evaluations.{number_of}
 use Rattle.gier_order.specs.Flat.Rows.{evaluates}
 use Rattle.gier_exec.specs.Rows.{regs_of, code_in}
 use Rattle.gier_exec.specs.Beginning.{beginning}
-use Rattle.gier_exec.proofs.Founds.{led}
+use Rattle.gier_exec.proofs.FrameReads.{led}
 use Rattle.gier_exec.proofs.Searches.{search_as, search_refused}
 use Rattle.gier_exec.proofs.evaluations.find_formal.Goals as goal
 

@@ -2,7 +2,7 @@ use Rattle.std.proofs.Common.{ℕ, length, arith, ◌∙◌}
 use Rattle.gier_order.specs.Flat.Row.{Row}
 use Rattle.gier_order.specs.Flat.Rows.{switches}
 use Rattle.gier_exec.specs.Rows.{regs_of}
-use Rattle.gier_exec.proofs.Founds.{led, base_only}
+use Rattle.gier_exec.proofs.FrameReads.{led, base_only}
 use Rattle.gier_exec.proofs.Evaluatings.{switch_is}
 use Rattle.gier_exec.proofs.evaluations.find_table.Goals as goal
 

@@ -1,7 +1,7 @@
 use Rattle.std.proofs.Common.{length, ◌∙◌}
 use Rattle.gier_names.specs.Evaluations.{number_of}
 use Rattle.gier_exec.specs.Rows.{regs_of}
-use Rattle.gier_exec.proofs.Founds.{led, led_on}
+use Rattle.gier_exec.proofs.FrameReads.{led, led_on}
 use Rattle.gier_exec.proofs.Evaluatings.{pass_cell, pass_go, pass_row, pass_gets, pass_is}
 use Rattle.gier_exec.proofs.evaluations.wanted_by.Goals as goal
 

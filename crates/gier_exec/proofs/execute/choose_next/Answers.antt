@@ -1,4 +1,4 @@
-use Rattle.gier_exec.proofs.Wholes.{back_is}
+use Rattle.gier_exec.proofs.WholeOrders.{back_is}
 use Rattle.gier_exec.proofs.execute.choose_next.Goals as goal
 
 pub returns-in-Jump-clause-row : goal.returns-in-Jump-clause-row

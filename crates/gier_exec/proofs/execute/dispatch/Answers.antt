@@ -1,7 +1,7 @@
 use Rattle.std.proofs.Common.{[], refl}
 use Rattle.gier_exec.proofs.Readings.{reads_nothing}
 use Rattle.gier_exec.proofs.Referrings.{refers_none, length_code}
-use Rattle.gier_exec.proofs.Wholes.{NotListed, NotEvaluating, plain_of, entered_of, jump_of, evaluation_of, choice_of, head_odd}
+use Rattle.gier_exec.proofs.WholeOrders.{NotListed, NotEvaluating, plain_of, entered_of, jump_of, evaluation_of, choice_of, head_odd}
 use Rattle.gier_exec.proofs.Callings.{call_of}
 use Rattle.gier_exec.proofs.execute.dispatch.Goals as goal
 

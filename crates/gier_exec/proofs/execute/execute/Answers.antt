@@ -1,11 +1,11 @@
 use Rattle.std.proofs.Common.{ap, Some, ◌++◌, ◌≡◌, ◌≢◌, ◌||◌, [], Ok, Err, false, IsTrue, length, sym, ◌∙◌}
-use Rattle.gier_library.proofs.Takes.{takes_nothing}
-use Rattle.gier_library.specs.Seen.{stand_of}
+use Rattle.gier_library.proofs.ReadsInOrder.{takes_nothing}
+use Rattle.gier_library.specs.DataView.{stand_of}
 use Rattle.gier_order.specs.declared.operation.Operation.TheVariants.{Lib}
 use Rattle.gier_exec.specs.Rows.{regs_of, code_in}
 use Rattle.gier_exec.specs.Numbers.{is_start}
 use Rattle.gier_exec.proofs.Referrings.{refers_none}
-use Rattle.gier_exec.proofs.Wholes.{does_is, does_odd}
+use Rattle.gier_exec.proofs.WholeOrders.{does_is, does_odd}
 use Rattle.gier_exec.proofs.Turnings.{puts_nothing, does_always, obeys_miss}
 use Rattle.gier_exec.proofs.Procedures.{does_lib, obeys_by}
 use Rattle.gier_exec.proofs.execute.execute.Goals as goal

@@ -1,7 +1,7 @@
 use Rattle.std.proofs.Common.{◌+◌, ◌<◌, ◌≤◌, length, arith}
 use Rattle.gier_exec.specs.Rows.{regs_of}
-use Rattle.gier_exec.proofs.Comings.{halts_does}
-use Rattle.gier_exec.proofs.Odds.{plain_past}
+use Rattle.gier_exec.proofs.RowResults.{halts_does}
+use Rattle.gier_exec.proofs.OddOrders.{plain_past}
 use Rattle.gier_exec.proofs.execute.go_on.Goals as goal
 
 pub returns-then-behind-from-clause-row : goal.returns-then-behind-from-clause-row

@@ -1,4 +1,4 @@
-use Rattle.gier_exec.proofs.Comings.{halts_does}
+use Rattle.gier_exec.proofs.RowResults.{halts_does}
 use Rattle.gier_exec.proofs.execute.move_on.Goals as goal
 
 pub returns-in-Err-clause-row : goal.returns-in-Err-clause-row

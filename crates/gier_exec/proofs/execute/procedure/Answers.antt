@@ -1,6 +1,6 @@
 use Rattle.std.proofs.Common.{◌≡◌, ◌+◌, ◌<◌, ◌≤◌, ◌++◌, [], Err, true, length, ap, sym, ◌∙◌, arith}
-use Rattle.gier_library.proofs.Takes.{takes_nothing}
-use Rattle.gier_library.specs.Seen.{stand_of}
+use Rattle.gier_library.proofs.ReadsInOrder.{takes_nothing}
+use Rattle.gier_library.specs.DataView.{stand_of}
 use Rattle.gier_order.specs.Flat.Row.{On}
 use Rattle.gier_exec.specs.Rows.{regs_of, code_in}
 use Rattle.gier_exec.specs.Turning.{told}

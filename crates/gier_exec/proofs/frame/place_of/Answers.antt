@@ -1,6 +1,6 @@
 use Rattle.std.proofs.Common.{◌≡◌, Ok, sym, ◌∙◌}
 use Rattle.gier_frames.specs.Walk.{cell_of}
-use Rattle.gier_exec.proofs.Founds.{cell_found, cell_refused, cell_small}
+use Rattle.gier_exec.proofs.FrameReads.{cell_found, cell_refused, cell_small}
 use Rattle.gier_exec.proofs.frame.place_of.Goals as goal
 
 pub returns-in-Ok-clause-row : goal.returns-in-Ok-clause-row

@@ -1,4 +1,4 @@
-use Rattle.gier_exec.proofs.Founds.{read_found, read_refused}
+use Rattle.gier_exec.proofs.FrameReads.{read_found, read_refused}
 use Rattle.gier_exec.proofs.frame.read.Goals as goal
 
 pub returns-in-Ok-clause-found : goal.returns-in-Ok-clause-found

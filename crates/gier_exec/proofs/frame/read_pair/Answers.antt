@@ -1,7 +1,7 @@
 use Rattle.std.proofs.Common.{◌+◌, length, ◌∙◌}
 use Rattle.gier_order.specs.Flat.Rows.{word_at}
 use Rattle.gier_exec.specs.Rows.{regs_of}
-use Rattle.gier_exec.proofs.Founds.{led, pair_at}
+use Rattle.gier_exec.proofs.FrameReads.{led, pair_at}
 use Rattle.gier_exec.proofs.frame.read_pair.Goals as goal
 
 pub returns-in-Err-clause-row : goal.returns-in-Err-clause-row

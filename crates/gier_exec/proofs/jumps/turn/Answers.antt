@@ -1,8 +1,8 @@
 use Rattle.std.proofs.Common.{length, sym, ◌∙◌}
 use Rattle.gier_exec.specs.Rows.{regs_of}
-use Rattle.gier_exec.proofs.Comings.{refused_halts, comes_halts}
+use Rattle.gier_exec.proofs.RowResults.{refused_halts, comes_halts}
 use Rattle.gier_exec.proofs.Refusings.{some_of}
-use Rattle.gier_exec.proofs.Leaps.{turns, turn_lost, turn_no_step, turn_goes}
+use Rattle.gier_exec.proofs.TurnRow.{turns, turn_lost, turn_no_step, turn_goes}
 use Rattle.gier_exec.proofs.jumps.turn.Goals as goal
 
 pub returns-in-Err-clause-row : goal.returns-in-Err-clause-row

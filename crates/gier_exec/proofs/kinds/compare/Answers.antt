@@ -6,7 +6,7 @@ use Rattle.gier_exec.specs.Rows.{regs_of, code_in}
 use Rattle.gier_exec.specs.declared.stop.Miss.TheVariants.{Stop as Stopped}
 use Rattle.gier_exec.proofs.Readings.{reads_joined}
 use Rattle.gier_exec.proofs.Referrings.{length_code}
-use Rattle.gier_exec.proofs.Reaching.{search_told}
+use Rattle.gier_exec.proofs.SearchReach.{search_told}
 use Rattle.gier_exec.proofs.Searches.{search_acts, search_as, search_then, search_stops, search_goes, refused_stops}
 use Rattle.gier_exec.proofs.Comparings.{agree_word, agree_head, agree_list, agree_count, agree_address, list_lost, list_there}
 use Rattle.gier_exec.proofs.kinds.compare.Goals as goal

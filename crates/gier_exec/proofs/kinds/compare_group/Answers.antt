@@ -7,7 +7,7 @@ use Rattle.gier_exec.specs.Rows.{code_in}
 use Rattle.gier_exec.specs.declared.stop.Stop.TheVariants.{Alarm as AlarmStop}
 use Rattle.gier_exec.specs.declared.stop.Miss.TheVariants.{Stop as Stopped}
 use Rattle.gier_exec.proofs.Readings.{reads_joined}
-use Rattle.gier_exec.proofs.Reaching.{search_told}
+use Rattle.gier_exec.proofs.SearchReach.{search_told}
 use Rattle.gier_exec.proofs.Searches.{search_other, search_then, search_found, search_stops}
 use Rattle.gier_exec.proofs.kinds.compare_group.Goals as goal
 

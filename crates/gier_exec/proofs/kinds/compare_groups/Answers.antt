@@ -4,7 +4,7 @@ use Rattle.gier_order.specs.Flat.Rows.{goes}
 use Rattle.gier_order.specs.Flat.Kinds.{groups_for}
 use Rattle.gier_exec.specs.Rows.{code_in}
 use Rattle.gier_exec.proofs.Readings.{reads_joined, reads_nothing}
-use Rattle.gier_exec.proofs.Reaching.{search_told}
+use Rattle.gier_exec.proofs.SearchReach.{search_told}
 use Rattle.gier_exec.proofs.Searches.{search_as, search_none, search_other, search_then, search_found}
 use Rattle.gier_exec.proofs.Comparings.{agrees_from, agrees_first, agrees_next, agrees_last}
 use Rattle.gier_exec.proofs.kinds.compare_groups.Goals as goal

@@ -3,7 +3,7 @@ use Rattle.gier_order.specs.Flat.Row.{Row, needs}
 use Rattle.gier_order.specs.Flat.Kinds.{is_packed}
 use Rattle.gier_exec.specs.declared.stop.Stop.TheVariants.{Odd}
 use Rattle.std.proofs.Common.{sym, ◌∙◌}
-use Rattle.gier_exec.proofs.Reaching.{search_word}
+use Rattle.gier_exec.proofs.SearchReach.{search_word}
 use Rattle.gier_exec.proofs.Searches.{search_other, search_found, search_stops, needs_yes, needs_no}
 use Rattle.gier_exec.proofs.kinds.fetch_packed.Goals as goal
 

@@ -1,14 +1,14 @@
 use Rattle.std.proofs.Common.{◌⊎◌, ◌≡◌, ◌≢◌, ◌-◌, ◌<◌, ◌≤◌, ℕ, nat_le, Ok, Err, length, inl, inr, ap, sym, refl, arith, ◌∙◌}
 use Rattle.gier_order.specs.Flat.Row.{On, Row, plain}
 use Rattle.gier_order.specs.Flat.Rows.{reads_order, looks_in, looks_at, truth}
-use Rattle.gier_order.specs.Flat.Kinds.{Handed, Kinded, handed}
+use Rattle.gier_order.specs.Flat.Kinds.{Handed, Kinded, formals_handed}
 use Rattle.gier_order.specs.declared.order.Order.{Order}
 use Rattle.gier_exec.specs.Rows.{regs_of, code_in}
 use Rattle.gier_exec.specs.declared.stop.Stop.TheVariants.{Odd}
 use Rattle.gier_exec.specs.declared.stop.Miss.TheVariants.{Stop as Stopped}
 use Rattle.gier_exec.proofs.Readings.{reads_joined}
 use Rattle.gier_exec.proofs.Referrings.{length_code}
-use Rattle.gier_exec.proofs.Reaching.{search_told}
+use Rattle.gier_exec.proofs.SearchReach.{search_told}
 use Rattle.gier_exec.proofs.Searches.{search_acts, search_as, search_then, search_stops, search_goes, search_refused}
 use Rattle.gier_exec.proofs.Comparings.{looks_odd, looks_past, looks_there, look_go, truth_is}
 use Rattle.gier_exec.proofs.kinds.look_at_kind.Goals.{then-r-eq0-via-then-r-eq0, then-r-eq0-via-else-r-eq0+then-r-count}
@@ -20,7 +20,7 @@ returns-in-Err-clause-row g c = λ tracks input told agree entered.
     let size = length c.args.frames.now.words in
     let m = c.args.m.now in
     let regs = regs_of m c.args.frames.now input in
-    let at : ℕ → Row = λ k. reads_order code size regs k (λ head. looks_in code size regs k (handed head)) in
+    let at : ℕ → Row = λ k. reads_order code size regs k (λ head. looks_in code size regs k (formals_handed head)) in
     search_acts _ _ _ _ regs at (Stopped c.in-Err.stop) (search_refused _ _ _ regs at c.in-Err.stop (c.in-Err.ensures.row code input m at entered))
 
 pub returns-in-Err-fetch_kinds-clause-row : goal.returns-in-Err-fetch_kinds-clause-row
@@ -30,7 +30,7 @@ returns-in-Err-fetch_kinds-clause-row g c = λ tracks input told agree entered.
     let m = c.args.m.now in
     let regs = regs_of m c.args.frames.now input in
     let k = c.in-Ok.address in
-    let at : ℕ → Row = λ k. reads_order code size regs k (λ head. looks_in code size regs k (handed head)) in
+    let at : ℕ → Row = λ k. reads_order code size regs k (λ head. looks_in code size regs k (formals_handed head)) in
     let go : Order → Handed → Row = λ head what. looks_in code size regs k what in
     search_acts _ _ _ _ regs (λ (kinds : Order). go kinds (Kinded kinds.level)) c.in-Err-fetch_kinds.miss
     (search_as _ _ _ _ _ regs (λ (kinds : Order). go kinds (Kinded kinds.level)) (Err c.in-Err-fetch_kinds.miss) (c.in-Ok.ensures.row code input m at entered) (c.in-Err-fetch_kinds.ensures.row tracks size regs go (λ head. refl) (λ head. refl) told agree))
@@ -43,7 +43,7 @@ returns-then-r-eq0-clause-row g c = λ tracks input told agree entered.
     let regs = regs_of m c.args.frames.now input in
     let k = c.in-Ok.address in
     let count = c.in-Ok-fetch_kinds.kinds.level in
-    let at : ℕ → Row = λ k. reads_order code size regs k (λ head. looks_in code size regs k (handed head)) in
+    let at : ℕ → Row = λ k. reads_order code size regs k (λ head. looks_in code size regs k (formals_handed head)) in
     let go : Order → Handed → Row = λ head what. looks_in code size regs k what in
     let go_kinds : Order → Row = λ kinds. go kinds (Kinded kinds.level) in
     let here = c.in-Ok.ensures.row code input m at entered in
@@ -63,7 +63,7 @@ returns-in-Err-ahead-clause-row g c = λ tracks input told agree entered.
     let regs = regs_of m c.args.frames.now input in
     let k = c.in-Ok.address in
     let count = c.in-Ok-fetch_kinds.kinds.level in
-    let at : ℕ → Row = λ k. reads_order code size regs k (λ head. looks_in code size regs k (handed head)) in
+    let at : ℕ → Row = λ k. reads_order code size regs k (λ head. looks_in code size regs k (formals_handed head)) in
     let go : Order → Handed → Row = λ head what. looks_in code size regs k what in
     let go_kinds : Order → Row = λ kinds. go kinds (Kinded kinds.level) in
     let here = c.in-Ok.ensures.row code input m at entered in
@@ -81,7 +81,7 @@ returns-in-Err-fetch_kind-clause-row g c = λ tracks input told agree entered.
     let regs = regs_of m c.args.frames.now input in
     let k = c.in-Ok.address in
     let count = c.in-Ok-fetch_kinds.kinds.level in
-    let at : ℕ → Row = λ k. reads_order code size regs k (λ head. looks_in code size regs k (handed head)) in
+    let at : ℕ → Row = λ k. reads_order code size regs k (λ head. looks_in code size regs k (formals_handed head)) in
     let go : Order → Handed → Row = λ head what. looks_in code size regs k what in
     let go_kinds : Order → Row = λ kinds. go kinds (Kinded kinds.level) in
     let here = c.in-Ok.ensures.row code input m at entered in
@@ -114,7 +114,7 @@ returns-clause-row g c = λ tracks input told agree entered.
     let regs = regs_of m c.args.frames.now input in
     let k = c.in-Ok.address in
     let count = c.in-Ok-fetch_kinds.kinds.level in
-    let at : ℕ → Row = λ k. reads_order code size regs k (λ head. looks_in code size regs k (handed head)) in
+    let at : ℕ → Row = λ k. reads_order code size regs k (λ head. looks_in code size regs k (formals_handed head)) in
     let go : Order → Handed → Row = λ head what. looks_in code size regs k what in
     let go_kinds : Order → Row = λ kinds. go kinds (Kinded kinds.level) in
     let here = c.in-Ok.ensures.row code input m at entered in

@@ -2,9 +2,9 @@ use Rattle.std.proofs.Common.{rules, ◌≢◌, ◌≡◌, ◌++◌, [], length,
 use Rattle.gier_word.specs.Words.{int_of_word}
 use Rattle.gier_word.specs.Standard.{integer_text, line_text, character_text, integer_read, character_read}
 use Rattle.gier_word.specs.Operations.{modulus_of, sign_of}
-use Rattle.gier_library.proofs.Longer.{integer_settled, character_settled}
-use Rattle.gier_library.proofs.Takes.{takes_nothing}
-use Rattle.gier_library.specs.Seen.{stand_of, ended}
+use Rattle.gier_library.proofs.LongerData.{integer_settled, character_settled}
+use Rattle.gier_library.proofs.ReadsInOrder.{takes_nothing}
+use Rattle.gier_library.specs.DataView.{stand_of, has_ended}
 use Rattle.gier_order.specs.Flat.Rows.{procedure, prints_string}
 use Rattle.gier_exec.specs.Rows.{regs_of, code_in}
 use Rattle.gier_exec.specs.Standards.{on_from, Sends, Computes}
@@ -97,7 +97,7 @@ returns-in-5-clause-row g c = λ tracks told agrees lt.
       λ s rest is.
           let before = regs_of c.args.m.now s (took.0 ++ rest) in
           obeys_by _ _ before (regs_of c.take_integer.new.m s rest) [] [] took.0 (on_from c.args.m.now.place c.take_integer.result) (ap (λ n. procedure code (length s.words) before n) c.in-5.is)
-          (receives_obeys integer_read integer_settled code c.args.m.now c.take_integer.new.m s took.0 (ended c.take_integer.new.input) c.take_integer.result took.2
+          (receives_obeys integer_read integer_settled code c.args.m.now c.take_integer.new.m s took.0 (has_ended c.take_integer.new.input) c.take_integer.result took.2
           (next_in tracks c.args.object.now c.args.m.now.place lt) rest is),
     )
 
@@ -114,7 +114,7 @@ returns-in-6-clause-row g c = λ tracks told agrees lt.
       λ s rest is.
           let before = regs_of c.args.m.now s (took.0 ++ rest) in
           obeys_by _ _ before (regs_of c.take_character.new.m s rest) [] [] took.0 (on_from c.args.m.now.place c.take_character.result) (ap (λ n. procedure code (length s.words) before n) c.in-6.is)
-          (receives_obeys character_read character_settled code c.args.m.now c.take_character.new.m s took.0 (ended c.take_character.new.input) c.take_character.result took.2
+          (receives_obeys character_read character_settled code c.args.m.now c.take_character.new.m s took.0 (has_ended c.take_character.new.input) c.take_character.result took.2
           (next_in tracks c.args.object.now c.args.m.now.place lt) rest is),
     )
 

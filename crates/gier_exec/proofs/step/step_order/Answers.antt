@@ -1,6 +1,6 @@
 use Rattle.std.proofs.Common.{◌≡◌, [], ◌∷◌, ◌++◌, length, Some, None, ap, sym, subst, ◌∙◌}
-use Rattle.gier_library.proofs.Takes.{takes_nothing}
-use Rattle.gier_library.specs.Seen.{stand_of}
+use Rattle.gier_library.proofs.ReadsInOrder.{takes_nothing}
+use Rattle.gier_library.specs.DataView.{stand_of}
 use Rattle.gier_order.specs.Codes.{order_at}
 use Rattle.gier_order.specs.Flat.Rows.{row}
 use Rattle.gier_places.specs.Contents.{Agrees}
@@ -8,7 +8,7 @@ use Rattle.gier_exec.specs.Rows.{regs_of, code_in, word_in}
 use Rattle.gier_exec.specs.Turning.{Follows, turned}
 use Rattle.gier_exec.proofs.Readings.{reads_both}
 use Rattle.gier_exec.proofs.Referrings.{refers_both, refers_at}
-use Rattle.gier_exec.proofs.Wholes.{row_none, row_some}
+use Rattle.gier_exec.proofs.WholeOrders.{row_none, row_some}
 use Rattle.gier_exec.proofs.Turnings.{puts_nothing, cut_nothing, follows_on, follows_quit}
 use Rattle.gier_exec.proofs.step.step_order.Goals as goal
 

@@ -1,6 +1,6 @@
 use Rattle.std.proofs.Common.{◌≡◌, ◌==◌, false, arith}
 use Rattle.std.proofs.lemmas.Bool.Decides.{nat_tests}
-use Rattle.gier_exec.proofs.Founds.{led_on, base_only}
+use Rattle.gier_exec.proofs.FrameReads.{led_on, base_only}
 use Rattle.gier_exec.proofs.values.base.Goals as goal
 
 pub returns-then-level-gt0-clause-row : goal.returns-then-level-gt0-clause-row

@@ -1,6 +1,6 @@
 use Rattle.std.proofs.Common.{length, sym, Ok, Err, ◌∙◌}
 use Rattle.gier_exec.specs.Rows.{regs_of}
-use Rattle.gier_exec.proofs.Comings.{combined_comes, combined_refused}
+use Rattle.gier_exec.proofs.RowResults.{combined_comes, combined_refused}
 use Rattle.gier_exec.proofs.values.combined.Goals as goal
 
 pub returns-in-Err-clause-row : goal.returns-in-Err-clause-row

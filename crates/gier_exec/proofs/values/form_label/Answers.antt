@@ -2,8 +2,8 @@ use Rattle.std.proofs.Common.{ℕ, length, refl, ◌∙◌}
 use Rattle.gier_order.specs.Flat.Row.{Row}
 use Rattle.gier_order.specs.Flat.Rows.{on}
 use Rattle.gier_exec.specs.Rows.{regs_of}
-use Rattle.gier_exec.proofs.Founds.{led, base_only}
-use Rattle.gier_exec.proofs.Comings.{on_is, refused_halts}
+use Rattle.gier_exec.proofs.FrameReads.{led, base_only}
+use Rattle.gier_exec.proofs.RowResults.{on_is, refused_halts}
 use Rattle.gier_exec.proofs.values.form_label.Goals as goal
 
 pub returns-in-Ok-clause-row : goal.returns-in-Ok-clause-row

@@ -1,5 +1,5 @@
 use Rattle.std.proofs.Common.{refl, arith}
-use Rattle.gier_exec.proofs.Comings.{NotOthers, plain_value, value_starts, entered_of}
+use Rattle.gier_exec.proofs.RowResults.{NotOthers, plain_value, value_starts, entered_of}
 use Rattle.gier_exec.proofs.values.plain.Goals as goal
 
 pub returns-in-Keep-clause-row : goal.returns-in-Keep-clause-row

@@ -4,7 +4,7 @@ use Rattle.gier_order.specs.Flat.Region.{put}
 use Rattle.gier_order.specs.Flat.Row.{Row, needs}
 use Rattle.gier_order.specs.Flat.Rows.{on}
 use Rattle.gier_exec.specs.Rows.{regs_of}
-use Rattle.gier_exec.proofs.Comings.{refused_halts, comes_on}
+use Rattle.gier_exec.proofs.RowResults.{refused_halts, comes_on}
 use Rattle.gier_exec.proofs.Stores.{store_row}
 use Rattle.gier_exec.proofs.values.put.Goals as goal
 

@@ -1,7 +1,7 @@
 use Rattle.std.proofs.Common.{length}
 use Rattle.gier_order.specs.Flat.Rows.{word_at}
 use Rattle.gier_exec.specs.Rows.{regs_of}
-use Rattle.gier_exec.proofs.Founds.{led_on}
+use Rattle.gier_exec.proofs.FrameReads.{led_on}
 use Rattle.gier_exec.proofs.values.take.Goals as goal
 
 pub returns-in-Ok-clause-row : goal.returns-in-Ok-clause-row

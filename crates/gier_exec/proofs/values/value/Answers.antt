@@ -2,7 +2,7 @@ use Rattle.std.proofs.Common.{length, subst}
 use Rattle.gier_order.specs.Flat.Rows.{gives, word_at}
 use Rattle.gier_exec.specs.Following.{ComesWith}
 use Rattle.gier_exec.specs.Rows.{regs_of}
-use Rattle.gier_exec.proofs.Comings.{gets_comes, value_combined}
+use Rattle.gier_exec.proofs.RowResults.{gets_comes, value_combined}
 use Rattle.gier_exec.proofs.values.value.Goals as goal
 
 pub returns-in-Take-clause-row : goal.returns-in-Take-clause-row

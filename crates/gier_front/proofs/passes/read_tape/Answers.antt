@@ -1,6 +1,6 @@
 use Rattle.std.proofs.Common.{ap, subst}
 use Rattle.std.specs.Prelude.{Err}
-use Rattle.gier_text.specs.Kept.{Kept}
+use Rattle.gier_text.specs.TablesModel.{TablesModel}
 use Rattle.gier_pass1.specs.Program.{Takes}
 use Rattle.gier_front.proofs.Early.{counted, first_ok, first_long, one_added}
 use Rattle.gier_front.proofs.passes.read_tape.Goals as goal
@@ -11,8 +11,8 @@ returns-in-Ok-no_faults-clause-early g c = λ tape is blank.
 
 pub returns-in-Err-TooLong-clause-early : goal.returns-in-Err-TooLong-clause-early
 returns-in-Err-TooLong-clause-early g c = λ tape is blank.
-    let none = ap (λ (t : Kept). t.faults) c.drop_faults.ensures in
-    let added = ap (λ (t : Kept). t.faults) c.add_fault.ensures.inserted in
+    let none = ap (λ (t : TablesModel). t.faults) c.drop_faults.ensures in
+    let added = ap (λ (t : TablesModel). t.faults) c.add_fault.ensures.inserted in
     let one = one_added c.drop_faults.new.self.faults.items c.add_fault.new.self.faults.items c.add_fault.ensures.at _ none added in
     first_long (g.S.Source.left c.args.tape.now) tape c.add_fault.new.self.faults.items is (subst (λ stop. Takes (Err stop) (g.S.Source.left c.args.tape.now) (g.S.Source.left c.read.new.tape)) c.in-Err-TooLong.field-0-is c.in-Err-TooLong.ensures.taken).1 one
 

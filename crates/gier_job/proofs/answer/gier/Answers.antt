@@ -3,7 +3,7 @@ use Rattle.std.specs.String.{string_bytes}
 use Rattle.gier_job.specs.Answer.{Refuses}
 use Rattle.gier_job.specs.Checked.{TakesFor}
 use Rattle.gier_job.specs.RunTails.{most_changes}
-use Rattle.gier_job.specs.Ran.{HasRun}
+use Rattle.gier_job.specs.RunAnswer.{HasRun}
 use Rattle.gier_job.specs.Reply.{text_for}
 use Rattle.gier_job.specs.Early.{AnswersEarly}
 use Rattle.gier_kinds.specs.Errors.{errors}

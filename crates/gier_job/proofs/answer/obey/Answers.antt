@@ -1,4 +1,4 @@
-use Rattle.gier_job.proofs.Told.{grown_told}
+use Rattle.gier_job.proofs.ToldDrum.{grown_told}
 use Rattle.gier_job.specs.RunTails.{most_changes}
 use Rattle.gier_job.proofs.Runs.{has_run_most}
 use Rattle.gier_job.proofs.answer.obey.Goals as goal

@@ -1,7 +1,7 @@
 use Rattle.std.proofs.Common.{◌≡◌, ◌<◌, ◌∙◌, Some, slice_get, arith, length, sym}
 use Rattle.std.proofs.lemmas.Option.{slice_get_within}
 use Rattle.gier_frames.specs.Stop.{activations}
-use Rattle.gier_job.proofs.Lives.{told_none, told_more, told_all, told_rest}
+use Rattle.gier_job.proofs.LiveTails.{told_none, told_more, told_all, told_rest}
 use Rattle.gier_job.proofs.mortem.put_activations.Goals as goal
 
 pub line-requires : goal.line-requires

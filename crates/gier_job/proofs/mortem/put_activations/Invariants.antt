@@ -1,7 +1,7 @@
 use Rattle.std.proofs.Common.{◌≤◌, map}
 use Rattle.gier_frames.specs.Stop.{activations}
 use Rattle.gier_runner.specs.Live.{live_of}
-use Rattle.gier_job.proofs.Lives.{HasTold}
+use Rattle.gier_job.proofs.LiveTails.{HasTold}
 use Rattle.gier_job.proofs.mortem.put_activations.Given as goal
 
 abbrev pub invariant-loop-at : goal.invariant-loop-at

@@ -1,7 +1,7 @@
 use Rattle.std.proofs.Common.{map}
 use Rattle.gier_frames.specs.Stop.{activations}
 use Rattle.gier_runner.specs.Live.{live_of}
-use Rattle.gier_job.proofs.Lives.{mortem_of}
+use Rattle.gier_job.proofs.LiveTails.{mortem_of}
 use Rattle.gier_job.proofs.mortem.put_stop.Goals as goal
 
 pub returns-in-Ok-clause-put : goal.returns-in-Ok-clause-put

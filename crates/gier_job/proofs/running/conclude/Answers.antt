@@ -5,9 +5,9 @@ use Rattle.gier_frames.specs.Stop.{activations}
 use Rattle.gier_order.specs.Flat.Live.{Live}
 use Rattle.gier_runner.specs.State.{report_of}
 use Rattle.gier_runner.specs.Live.{live_of}
-use Rattle.gier_job.specs.Behind.{run_tails}
+use Rattle.gier_job.specs.TailsOfRun.{run_tails}
 use Rattle.gier_job.specs.Mortem.{PutsMortem}
-use Rattle.gier_job.proofs.Asked.{when_printed, stopped_is, tails_with, tails_without}
+use Rattle.gier_job.proofs.TailsAskedFor.{when_printed, stopped_is, tails_with, tails_without}
 use Rattle.gier_job.proofs.running.conclude.Goals as goal
 
 pub returns-then-command-clause-put : goal.returns-then-command-clause-put

@@ -1,7 +1,7 @@
 use Rattle.std.proofs.Common.{◌≡◌, true, OnOk, subst}
 use Rattle.gier_io.specs.Device.{Puts}
 use Rattle.gier_job.specs.Tails.{table_tail}
-use Rattle.gier_job.proofs.Asked.{ok_asked}
+use Rattle.gier_job.proofs.TailsAskedFor.{ok_asked}
 use Rattle.gier_job.proofs.running.put_misses.Goals as goal
 
 pub returns-clause-put : goal.returns-clause-put

@@ -1,14 +1,14 @@
 use Rattle.std.proofs.Common.{◌≡◌, ◌≤◌, ◌∙◌, arith, ap, sym, subst, take}
 use Rattle.gier_library.specs.Data.{limit}
 use Rattle.gier_areas.specs.Areas.{first_of, object_first}
-use Rattle.gier_text.specs.Coded.{text_on}
-use Rattle.gier_text.specs.Growth.{IsLight}
+use Rattle.gier_text.specs.SymbolsOnTracks.{text_on}
+use Rattle.gier_text.specs.Potential.{IsWithinPotential}
 use Rattle.gier_exec.specs.Rows.{code_in}
 use Rattle.gier_exec.specs.References.{tracks_of, notes_of}
 use Rattle.gier_runner.specs.declared.settings.Settings.{Settings}
-use Rattle.gier_job.specs.Ran.{IsRunEnd}
-use Rattle.gier_job.proofs.Answered.{told_before, told_through, code_kept, answered, answered_so}
-use Rattle.gier_job.proofs.Defined.{told_list, is_defined}
+use Rattle.gier_job.specs.RunAnswer.{IsRunEnd}
+use Rattle.gier_job.proofs.RunAnswers.{told_before, told_through, code_kept, answered, answered_so}
+use Rattle.gier_job.proofs.DefinedObject.{told_list, is_defined}
 use Rattle.gier_job.proofs.running.run_fronted.Goals as goal
 
 pub returns-in-Ok-conclude-clause-runs : goal.returns-in-Ok-conclude-clause-runs
@@ -26,7 +26,7 @@ returns-in-Ok-conclude-clause-runs g c = λ tracks bytes told left is.
       object,
       c.in-Ok.ensures.object,
       (λ six.
-          let text = told_list (IsLight 6 c.args.fronted.bytes) (text_on (g.D.Drum.tracks c.args.drum.now) 0 c.args.fronted.symbols) six in
+          let text = told_list (IsWithinPotential 6 c.args.fronted.bytes) (text_on (g.D.Drum.tracks c.args.drum.now) 0 c.args.fronted.symbols) six in
           let made = c.in-Ok.ensures.made text.0 text.1 text.2 in
           is_defined (g.D.Drum.tracks c.back.new.drum) before.0 tracks c.args.fronted.bytes command.mortem object made made_on same
           (λ off. told_through (g.D.Drum.tracks c.back.new.drum) (g.D.Drum.tracks c.run-ending.new.drum) tracks run.reads.tracks

@@ -1,6 +1,6 @@
 use Rattle.std.proofs.Common.{◌≡◌, ◌∙◌, ◌≤◌, ap, refl, arith}
 use Rattle.gier_library.specs.Data.{Stand}
-use Rattle.gier_library.specs.Seen.{source_of, stand_of}
+use Rattle.gier_library.specs.DataView.{source_of, stand_of}
 use Rattle.gier_library.proofs.Numbers.{reading_goes, reading_stops, reading_ends}
 use Rattle.gier_library.proofs.reading.in_integer.Goals as goal
 

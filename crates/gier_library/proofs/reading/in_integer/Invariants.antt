@@ -1,6 +1,6 @@
 use Rattle.std.proofs.Common.{◌≡◌, ◌-◌}
 use Rattle.gier_library.specs.Data.{limit}
-use Rattle.gier_library.specs.Seen.{source_of, stand_of}
+use Rattle.gier_library.specs.DataView.{source_of, stand_of}
 use Rattle.gier_library.proofs.Numbers.{Holds}
 use Rattle.gier_library.proofs.reading.in_integer.Given as goal
 

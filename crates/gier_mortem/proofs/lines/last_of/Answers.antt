@@ -1,8 +1,8 @@
 use Rattle.std.proofs.Common.{◌≡◌, ◌<◌, ◌+◌, ◌∙◌, ℕ, suc, length, take, get_or, max, ap, sym, arith}
 use Rattle.std.proofs.lemmas.List.{length-map}
 use Rattle.gier_mortem.specs.declared.lines.Asked.{Asked}
-use Rattle.gier_mortem.specs.Asking.{addresses, greatest}
-use Rattle.gier_mortem.proofs.Telling.{none, greatest_next, address_at}
+use Rattle.gier_mortem.specs.WordLines.{addresses, greatest}
+use Rattle.gier_mortem.proofs.GreatestSoFar.{none, greatest_next, address_at}
 use Rattle.gier_mortem.proofs.lines.last_of.Goals as goal
 
 pub loop-at-preserved : goal.loop-at-preserved

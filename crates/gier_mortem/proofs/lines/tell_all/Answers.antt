@@ -1,7 +1,7 @@
 use Rattle.std.proofs.Common.{◌≡◌, ◌<◌, ◌+◌, ◌∙◌, ℕ, suc, List, length, get_or, set, ap, arith}
 use Rattle.gier_mortem.specs.declared.lines.Asked.{Asked}
-use Rattle.gier_mortem.specs.Asking.{told_line}
-use Rattle.gier_mortem.proofs.Telling.{none, changed_to, changed_next}
+use Rattle.gier_mortem.specs.WordLines.{told_line}
+use Rattle.gier_mortem.proofs.GreatestSoFar.{none, changed_to, changed_next}
 use Rattle.gier_mortem.proofs.lines.tell_all.Goals as goal
 
 pub loop-at-preserved : goal.loop-at-preserved

@@ -1,6 +1,6 @@
 use Rattle.std.proofs.Common.{◌≡◌}
-use Rattle.gier_mortem.specs.Asking.{told_line}
-use Rattle.gier_mortem.proofs.Telling.{changed_to}
+use Rattle.gier_mortem.specs.WordLines.{told_line}
+use Rattle.gier_mortem.proofs.GreatestSoFar.{changed_to}
 use Rattle.gier_mortem.proofs.lines.tell_all.Given as goal
 
 -- the words so far were told, and the others are as they were

@@ -1,5 +1,5 @@
 use Rattle.gier_pass1.specs.Puts.{letters_in}
-use Rattle.gier_pass1.proofs.Putting.{puts_on}
+use Rattle.gier_pass1.proofs.WritesJoined.{puts_on}
 use Rattle.gier_pass1.proofs.emit.put.Goals as goal
 
 pub returns-clause-puts : goal.returns-clause-puts

@@ -1,7 +1,7 @@
 use Rattle.std.proofs.Common.{sym, subst, refl}
 use Rattle.gier_strop.specs.declared.reader.Fed.{Fed}
 use Rattle.gier_strop.specs.Reading.{Reading, with_letter}
-use Rattle.gier_pass1.specs.Moves.{IsKnown}
+use Rattle.gier_pass1.specs.StepCounts.{IsKnown}
 use Rattle.gier_pass1.specs.Scanning.{HasLetters}
 use Rattle.gier_pass1.proofs.Letters.{fed_known}
 use Rattle.gier_pass1.proofs.scanner.feed.Goals as goal

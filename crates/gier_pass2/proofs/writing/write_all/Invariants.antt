@@ -1,5 +1,5 @@
 use Rattle.std.proofs.Common.{take}
-use Rattle.gier_pass2.proofs.Wrote.{Wrote}
+use Rattle.gier_pass2.proofs.WriteLoop.{Wrote}
 use Rattle.gier_pass2.proofs.writing.write_all.Given as goal
 
 abbrev pub invariant-loop-symbol : goal.invariant-loop-symbol

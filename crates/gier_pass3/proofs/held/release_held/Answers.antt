@@ -1,7 +1,7 @@
 use Rattle.std.proofs.Common.{◌∙◌, ap, arith, length, List, length-append, ◌++◌}
 use Rattle.gier_symbol.specs.declared.symbol.Symbol.{Symbol}
-use Rattle.gier_text.specs.Kept.{kept}
-use Rattle.gier_text.specs.Outbox.{symbol_at, if_any, waiting_until}
+use Rattle.gier_text.specs.TablesModel.{tables_model}
+use Rattle.gier_text.specs.Outbox.{symbol_at, if_any, outbox_symbols_until}
 use Rattle.gier_pass3.specs.Lists.{held_in, ready_by}
 use Rattle.gier_pass3.proofs.Released.{still_fewer, ready_more, keeps_more}
 use Rattle.gier_pass3.proofs.held.release_held.Goals as goal
@@ -9,16 +9,16 @@ use Rattle.gier_pass3.proofs.held.release_held.Goals as goal
 pub release_at-requires-clause-room : goal.release_at-requires-clause-room
 release_at-requires-clause-room c =
     let inv = c.loop-at.invariant in
-    let list = held_in (kept c.args.tables.now) in
-    rw inv.held (omega (arith, inv.same_lists.ready_room, ap (λ (l : List Symbol). length l) inv.ready, length-append (ready_by (kept c.args.tables.now)) (waiting_until list c.loop-at.at), still_fewer list c.loop-at.at list.count (omega (arith, c.loop-at-test.true, c.len-at-end.ensures)), c.requires.room))
+    let list = held_in (tables_model c.args.tables.now) in
+    rw inv.held (omega (arith, inv.same_lists.ready_room, ap (λ (l : List Symbol). length l) inv.ready, length-append (ready_by (tables_model c.args.tables.now)) (outbox_symbols_until list c.loop-at.at), still_fewer list c.loop-at.at list.count (omega (arith, c.loop-at-test.true, c.len-at-end.ensures)), c.requires.room))
 
 pub loop-at-preserved : goal.loop-at-preserved
 loop-at-preserved c =
     let inv = c.loop-at.invariant in
-    let list = held_in (kept c.args.tables.now) in
+    let list = held_in (tables_model c.args.tables.now) in
     record {
-      same_lists = keeps_more (kept c.args.tables.now) (kept c.loop-at.tables) (kept c.release_at.new.tables) inv.same_lists c.release_at.ensures.kept;
+      same_lists = keeps_more (tables_model c.args.tables.now) (tables_model c.loop-at.tables) (tables_model c.release_at.new.tables) inv.same_lists c.release_at.ensures.kept;
       stack = c.release_at.ensures.stack ∙ inv.stack;
       held = c.release_at.ensures.held ∙ inv.held;
-      ready = ready_more (ready_by (kept c.args.tables.now)) (ready_by (kept c.loop-at.tables)) (ready_by (kept c.release_at.new.tables)) list c.loop-at.at inv.ready (c.release_at.ensures.ready ∙ ap (λ l. ready_by (kept c.loop-at.tables) ++ if_any (symbol_at l c.loop-at.at)) inv.held);
+      ready = ready_more (ready_by (tables_model c.args.tables.now)) (ready_by (tables_model c.loop-at.tables)) (ready_by (tables_model c.release_at.new.tables)) list c.loop-at.at inv.ready (c.release_at.ensures.ready ∙ ap (λ l. ready_by (tables_model c.loop-at.tables) ++ if_any (symbol_at l c.loop-at.at)) inv.held);
     }

@@ -1,5 +1,5 @@
 use Rattle.std.proofs.Common.{◌≡◌, ◌≤◌, ◌<◌, ◌+◌, ◌^◌, length, drop}
-use Rattle.gier_text.specs.Kept.{kept}
+use Rattle.gier_text.specs.TablesModel.{tables_model}
 use Rattle.gier_pass3.specs.Items.{credits}
 use Rattle.gier_pass3.specs.Rules.{wants_of}
 use Rattle.gier_pass3.specs.Grammar.{HasItems, AreAbove, all_above, wanted_in}
@@ -11,13 +11,13 @@ invariant-loop-at l = record {
   items : l.items ≡ wants_of l.fn.rule;
   within : l.at ≤ length l.items;
   left : l.left-2 < 2 ^ 32;
-  same_lists : KeepsLists (kept l.fn.tables) (kept l.tables);
-  held : held_in (kept l.tables) ≡ held_in (kept l.fn.tables);
-  ready : ready_in (kept l.tables) ≡ ready_in (kept l.fn.tables);
-  deep : depth (kept l.tables) + l.at ≡ depth (kept l.fn.tables) + length l.items;
-  read : wanted_in (kept l.tables) ≡ all_above (drop l.at l.items) l.left (wanted_in (kept l.fn.tables));
-  entries : HasItems (kept l.fn.tables) → AreAbove (drop l.at l.items) l.left (wanted_in (kept l.fn.tables)) → HasItems (kept l.tables);
-  paid : credit (kept l.tables) ≡ credit (kept l.fn.tables) + credits (drop l.at l.items);
+  same_lists : KeepsLists (tables_model l.fn.tables) (tables_model l.tables);
+  held : held_in (tables_model l.tables) ≡ held_in (tables_model l.fn.tables);
+  ready : ready_in (tables_model l.tables) ≡ ready_in (tables_model l.fn.tables);
+  deep : depth (tables_model l.tables) + l.at ≡ depth (tables_model l.fn.tables) + length l.items;
+  read : wanted_in (tables_model l.tables) ≡ all_above (drop l.at l.items) l.left (wanted_in (tables_model l.fn.tables));
+  entries : HasItems (tables_model l.fn.tables) → AreAbove (drop l.at l.items) l.left (wanted_in (tables_model l.fn.tables)) → HasItems (tables_model l.tables);
+  paid : credit (tables_model l.tables) ≡ credit (tables_model l.fn.tables) + credits (drop l.at l.items);
 }
 
 abbrev pub decreases-loop-at : goal.decreases-loop-at

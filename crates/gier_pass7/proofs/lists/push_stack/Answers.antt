@@ -1,4 +1,4 @@
-use Rattle.gier_pass7.proofs.Twelve.{twelve_small}
+use Rattle.gier_pass7.proofs.EntryWords.{twelve_small}
 use Rattle.gier_pass7.proofs.lists.push_stack.Goals as goal
 
 pub push-requires-clause-small : goal.push-requires-clause-small

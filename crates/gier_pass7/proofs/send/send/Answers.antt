@@ -1,8 +1,8 @@
 use Rattle.std.proofs.Common.{◌∙◌, ◌++◌, arith, refl, []}
-use Rattle.gier_text.proofs.Driven.{writes_more, writes_none, logged_more, logged_none, tracks_more, tracks_none}
+use Rattle.gier_text.proofs.DriveLoop.{writes_more, writes_none, logged_more, logged_none, tracks_more, tracks_none}
 use Rattle.gier_text.specs.Outbox.{if_any}
 use Rattle.gier_text.specs.declared.pass.PassStop.TheVariants.{Full}
-use Rattle.gier_pass7.proofs.Sending.{other_ok, no_letters, letters_more, spent_more, less_room}
+use Rattle.gier_pass7.proofs.SendLoop.{other_ok, no_letters, letters_more, spent_more, less_room}
 use Rattle.gier_pass7.proofs.send.send.Goals as goal
 
 pub returns-in-Err-clause-roomy : goal.returns-in-Err-clause-roomy

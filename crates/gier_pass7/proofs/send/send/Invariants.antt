@@ -1,4 +1,4 @@
-use Rattle.gier_pass7.proofs.Sending.{IsSending}
+use Rattle.gier_pass7.proofs.SendLoop.{IsSending}
 use Rattle.gier_pass7.proofs.send.send.Given as goal
 
 abbrev pub invariant-loop-at : goal.invariant-loop-at

@@ -2,7 +2,7 @@ use Rattle.std.proofs.Common.{refl, lit<}
 use Rattle.std.proofs.lemmas.List.Sums.{AllPass-from_list_all}
 use Rattle.gier_symbol.specs.declared.symbol.Symbol.{Symbol}
 use Rattle.gier_symbol.specs.Texts.{stands_in}
-use Rattle.gier_pass9.specs.MakingExamples.{jumps_7}
+use Rattle.gier_pass9.specs.ObjectExamples.{jumps_7}
 use Rattle.gier_pass9.proofs.laws.law_made.Goals as goal
 
 pub returns : goal.returns

@@ -1,6 +1,6 @@
 use Rattle.std.proofs.Common.{lit<}
 use Rattle.std.proofs.lemmas.List.{get_or-replicate}
-use Rattle.gier_text.proofs.Listed.{zeros}
+use Rattle.gier_text.proofs.Tabulation.{zeros}
 use Rattle.gier_pass9.proofs.object.zeros.Goals as goal
 
 pub returns-clause-zero : goal.returns-clause-zero

@@ -2,8 +2,8 @@ use Rattle.std.proofs.Common.{◌≡◌, false, arith, refl}
 use Rattle.std.proofs.lemmas.Bool.Decides.{nat_tests}
 use Rattle.gier_symbol.specs.declared.tag.Tag.TheVariants.{LabelPlace}
 use Rattle.gier_symbol.specs.Texts.{is_tag_of}
-use Rattle.gier_text.proofs.Driven.{OnOk-map}
-use Rattle.gier_pass9.proofs.Made.{on_ok}
+use Rattle.gier_text.proofs.DriveLoop.{OnOk-map}
+use Rattle.gier_pass9.proofs.WordsMade.{on_ok}
 use Rattle.gier_pass9.proofs.writer.take.Goals as goal
 
 pub returns-clause-marks : goal.returns-clause-marks

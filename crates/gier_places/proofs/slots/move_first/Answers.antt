@@ -1,5 +1,5 @@
 use Rattle.std.proofs.Common.{◌≡◌, ◌-◌, ◌∙◌, suc, arith}
-use Rattle.gier_places.proofs.Moving.{moved_none, swapped}
+use Rattle.gier_places.proofs.MoveToFront.{moved_none, swapped}
 use Rattle.gier_places.proofs.slots.move_first.Goals as goal
 
 pub loop-at-preserved : goal.loop-at-preserved

@@ -1,5 +1,5 @@
 use Rattle.std.proofs.Common.{◌≡◌, ◌<◌, length}
-use Rattle.gier_places.specs.Held.{moved_first}
+use Rattle.gier_places.specs.HeldTracks.{moved_first}
 use Rattle.gier_places.proofs.slots.move_first.Given as goal
 
 -- what is left to move gives what was asked for

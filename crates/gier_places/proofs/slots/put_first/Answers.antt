@@ -1,7 +1,7 @@
 use Rattle.std.proofs.Common.{◌≡◌, ◌∷◌, ◌∙◌, ℕ, List, length, ap}
 use Rattle.gier_places.specs.declared.slots.Slot.{Slot}
-use Rattle.gier_places.specs.Held.{held_in}
-use Rattle.gier_places.proofs.Apart.{added}
+use Rattle.gier_places.specs.HeldTracks.{held_in}
+use Rattle.gier_places.proofs.SlotsApart.{added}
 use Rattle.gier_places.proofs.slots.put_first.Goals as goal
 
 pub returns-clause-placed : goal.returns-clause-placed

@@ -1,6 +1,6 @@
 use Rattle.std.proofs.Common.{◌≡◌, ◌-◌, ◌∷◌, ℕ, suc, length, take, get_or, set, refl, subst, arith}
-use Rattle.gier_places.specs.Held.{held_in}
-use Rattle.gier_places.proofs.Apart.{none, has_words, replaced}
+use Rattle.gier_places.specs.HeldTracks.{held_in}
+use Rattle.gier_places.proofs.SlotsApart.{none, has_words, replaced}
 use Rattle.gier_places.proofs.slots.replace_last.Goals as goal
 
 pub bounds-words-at : goal.bounds-words-at

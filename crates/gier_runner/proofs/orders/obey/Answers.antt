@@ -1,12 +1,12 @@
 use Rattle.std.proofs.Common.{◌∙◌, length, rules, refl, ap, sym}
-use Rattle.gier_library.specs.Seen.{source_of, stand_of}
-use Rattle.gier_library.proofs.Takes.{takes_nothing}
+use Rattle.gier_library.specs.DataView.{source_of, stand_of}
+use Rattle.gier_library.proofs.ReadsInOrder.{takes_nothing}
 use Rattle.gier_exec.specs.Reading.{seen}
-use Rattle.gier_runner.specs.Running.{devices, parts}
+use Rattle.gier_runner.specs.RunInvariant.{devices, parts}
 use Rattle.gier_runner.proofs.Numbers.{next_counts}
-use Rattle.gier_runner.proofs.Obeying.{reads_begin, reads_more, sizes_begin, sizes_more}
-use Rattle.gier_runner.proofs.Turns.{now}
-use Rattle.gier_runner.proofs.Following.{goes_first, goes_flat, runs_flat}
+use Rattle.gier_runner.proofs.OrdersTogether.{reads_begin, reads_more, sizes_begin, sizes_more}
+use Rattle.gier_runner.proofs.RunSteps.{now}
+use Rattle.gier_runner.proofs.WordsOfRun.{goes_first, goes_flat, runs_flat}
 use Rattle.gier_runner.proofs.orders.obey.Goals as goal
 
 -- src/orders.rt:51:13

@@ -1,10 +1,10 @@
 use Rattle.std.proofs.Common.{◌≡◌, ◌<◌, length}
-use Rattle.gier_library.specs.Seen.{source_of, stand_of}
+use Rattle.gier_library.specs.DataView.{source_of, stand_of}
 use Rattle.gier_exec.specs.Registers.{measure}
 use Rattle.gier_exec.specs.Reading.{seen}
-use Rattle.gier_runner.specs.Running.{Counted, OnlyReads, KeepsSizes, devices, parts}
-use Rattle.gier_runner.proofs.Turns.{now}
-use Rattle.gier_runner.proofs.Following.{GoesFlat}
+use Rattle.gier_runner.specs.RunInvariant.{Counted, OnlyReads, KeepsSizes, devices, parts}
+use Rattle.gier_runner.proofs.RunSteps.{now}
+use Rattle.gier_runner.proofs.WordsOfRun.{GoesFlat}
 use Rattle.gier_runner.proofs.orders.obey.Given as goal
 
 abbrev pub invariant-loop-ending : goal.invariant-loop-ending

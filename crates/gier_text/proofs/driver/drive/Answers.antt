@@ -3,7 +3,7 @@ use Rattle.gier_symbol.specs.declared.symbol.Symbol.{Symbol}
 use Rattle.gier_text.specs.Log.{Logged}
 use Rattle.gier_text.specs.Passes.{Expected}
 use Rattle.gier_text.specs.View.{WritesAll, View}
-use Rattle.gier_text.proofs.Driven.{reads_none, writes_none, reads_more, writes_more, reads_end, logs_both_none, logs_both_more, logs_both_read, apart_as, apart_back, tracks_more, tracks_none, next_told, element_has, less_as, take_spoilt, take_named, names_more, place_more, first_word}
+use Rattle.gier_text.proofs.DriveLoop.{reads_none, writes_none, reads_more, writes_more, reads_end, logs_both_none, logs_both_more, logs_both_read, apart_as, apart_back, tracks_more, tracks_none, next_told, element_has, less_as, take_spoilt, take_named, names_more, place_more, first_word}
 use Rattle.gier_text.proofs.driver.drive.Goals as goal
 
 pub loop-s-init : goal.loop-s-init

@@ -1,6 +1,6 @@
 use Rattle.std.proofs.Common.{◌≡◌, ◌+◌, ◌<◌, arith, refl, ap, length, get_or, set}
 use Rattle.gier_region.specs.Contents.{Contents}
-use Rattle.gier_text.proofs.Laid.{copied_none, copied_more}
+use Rattle.gier_text.proofs.ListExtents.{copied_none, copied_more}
 use Rattle.gier_text.proofs.extent.copy.Goals as goal
 
 pub loop-word-init : goal.loop-word-init

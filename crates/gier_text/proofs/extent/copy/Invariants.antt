@@ -1,5 +1,5 @@
 use Rattle.std.proofs.Common.{◌≡◌, ◌+◌}
-use Rattle.gier_text.proofs.Laid.{Copied}
+use Rattle.gier_text.proofs.ListExtents.{Copied}
 use Rattle.gier_text.proofs.extent.copy.Given as goal
 
 abbrev pub invariant-loop-word : goal.invariant-loop-word

@@ -1,4 +1,4 @@
-use Rattle.gier_tree.proofs.Whole.{one_program, written_spelled}
+use Rattle.gier_tree.proofs.ProgramsRead.{one_program, written_spelled}
 use Rattle.gier_tree.proofs.laws.law_unique.Goals as goal
 
 pub returns : goal.returns

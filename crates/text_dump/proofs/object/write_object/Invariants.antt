@@ -1,5 +1,5 @@
 use Rattle.std.proofs.Common.{◌≡◌, ◌≤◌, ◌+◌, ◌^◌, true, false}
-use Rattle.gier_text.specs.Coded.{tracks_for}
+use Rattle.gier_text.specs.SymbolsOnTracks.{tracks_for}
 use Rattle.text_dump.proofs.object.write_object.Given as goal
 
 abbrev pub invariant-loop-s : goal.invariant-loop-s

@@ -1,6 +1,6 @@
 use Rattle.std.proofs.Common.{◌≡◌, true, false, sym, subst, arith}
 use Rattle.gier_best.specs.Plan.{is_track}
-use Rattle.gier_best.specs.Traced.{Traced, AreTracks}
+use Rattle.gier_best.specs.TraceModel.{Traced, AreTracks}
 use Rattle.gier_best.proofs.Notes.{noted_again, noted_change, change_tracks}
 use Rattle.gier_best.proofs.trace.Trace.note.Goals as goal
 

@@ -1,5 +1,5 @@
 use Rattle.std.proofs.Common.{rules, sym}
-use Rattle.gier_frames.proofs.Displaying.{step}
+use Rattle.gier_frames.proofs.DisplayBuild.{step}
 use Rattle.gier_frames.proofs.display.Display.build.Goals as goal
 
 pub loop-base-preserved : goal.loop-base-preserved

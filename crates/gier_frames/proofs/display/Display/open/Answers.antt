@@ -1,5 +1,5 @@
 use Rattle.std.proofs.Common.{rules}
-use Rattle.gier_frames.proofs.Displaying.{none_at}
+use Rattle.gier_frames.proofs.DisplayBuild.{none_at}
 use Rattle.gier_frames.proofs.display.Display.open.Goals as goal
 
 pub invariant_of-result : goal.invariant_of-result

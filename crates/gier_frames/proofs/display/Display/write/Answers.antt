@@ -1,5 +1,5 @@
 use Rattle.std.proofs.Common.{rules}
-use Rattle.gier_frames.proofs.Displaying.{stays_shown}
+use Rattle.gier_frames.proofs.DisplayBuild.{stays_shown}
 use Rattle.gier_frames.proofs.display.Display.write.Goals as goal
 
 pub returns-else-rests_on-clause-shows : goal.returns-else-rests_on-clause-shows

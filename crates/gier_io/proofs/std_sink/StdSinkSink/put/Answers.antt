@@ -1,6 +1,6 @@
 use Rattle.std.proofs.Common.{rules}
 use Rattle.gier_io.specs.Adapter.{writer_of, WritesPart}
-use Rattle.gier_io.proofs.Known.{front_then, front_kept}
+use Rattle.gier_io.proofs.WritesJoined.{front_then, front_kept}
 use Rattle.gier_io.proofs.std_sink.StdSinkSink.put.Goals as goal
 
 pub returns-in_err-rest-clause-begun : goal.returns-in_err-rest-clause-begun

@@ -1,5 +1,5 @@
 use Rattle.std.proofs.Common.{◌≡◌, ◌≤◌, ◌+◌, true}
-use Rattle.gier_mortem.specs.Asking.{addresses, greatest, Searched}
+use Rattle.gier_mortem.specs.WordLines.{addresses, greatest, Searched}
 use Rattle.gier_mortem.proofs.lines.Lines.search.Given as goal
 
 -- the text stays where it is and is being read, and no more words were met than symbols

@@ -2,7 +2,7 @@ use Rattle.std.proofs.Common.{◌≡◌, ◌<◌, ◌==◌, ◌∷◌, ℕ, List
 use Rattle.std.proofs.lemmas.Grind.{common_steps}
 use Rattle.gier_order.specs.Counts.{Counts, StandsFor}
 use Rattle.gier_order.proofs.recent.Recent.refer.Goals as goal
-use Rattle.gier_order.proofs.Standing.{stands_miss, stands_hit, first_kept}
+use Rattle.gier_order.proofs.CountInvariant.{stands_miss, stands_hit, first_kept}
 
 pub returns-in-Some-eq0-clause-stands : goal.returns-in-Some-eq0-clause-stands
 returns-in-Some-eq0-clause-stands c = λ refs stands.

@@ -2,15 +2,15 @@ use Rattle.std.proofs.Common.{◌≡◌, ◌≤◌, ◌+◌, ◌++◌, ◌∷◌
 use Rattle.gier_pass1.specs.declared.state.State.{State}
 use Rattle.gier_pass1.specs.declared.state.Place.{Place}
 use Rattle.gier_text.specs.declared.fault.Fault.{Fault}
-use Rattle.gier_pass1.specs.Moves.{owed_symbols, owed_faults}
+use Rattle.gier_pass1.specs.StepCounts.{owed_symbols, owed_faults}
 use Rattle.gier_pass1.specs.Program.{GivesNext, IsCount}
 use Rattle.gier_pass1.specs.Puts.{letters_in}
-use Rattle.gier_pass1.proofs.Keeping.{frame_more, frame_none}
-use Rattle.gier_pass1.proofs.Putting.{puts_more, puts_none}
+use Rattle.gier_pass1.proofs.ScanInvariant.{frame_more, frame_none}
+use Rattle.gier_pass1.proofs.WritesJoined.{puts_more, puts_none}
 use Rattle.gier_pass1.proofs.Texts.{nothing_read, read_one, read_end, read_part, all_part, stopped}
-use Rattle.gier_text.specs.Kept.{kept}
-use Rattle.gier_pass1.proofs.Telling.{telling_first, telling_more, telling_ends}
-use Rattle.gier_pass1.proofs.TellingAll.{tells_tape}
+use Rattle.gier_text.specs.TablesModel.{tables_model}
+use Rattle.gier_pass1.proofs.ListingSoFar.{telling_first, telling_more, telling_ends}
+use Rattle.gier_pass1.proofs.ListingOfTape.{tells_tape}
 use Rattle.gier_pass1.proofs.read.Pass1.read.Goals as goal
 
 pub bytes-init : goal.bytes-init
@@ -24,7 +24,7 @@ bytes-init g c =
       counted = sym (ap (λ (s : State). s.here.at) start);
       scanning = c.new-scanner.ensures.scanning;
       symbols = [];
-      telling = telling_first c.new-scanner.result (kept c.args.tables.now).faults start c.new-scanner.ensures.letters c.requires.no_faults;
+      telling = telling_first c.new-scanner.result (tables_model c.args.tables.now).faults start c.new-scanner.ensures.letters c.requires.no_faults;
       puts = puts_none (view c.args.out.now c.args.store.now) (g.T.Text.journal c.args.store.now);
       few_symbols = omega (arith, c.requires.empty.count, ap (λ (s : State). owed_symbols s.mode) start);
       few_faults = omega (arith, none, ap (λ (s : State). owed_faults s.mode) start);
@@ -65,8 +65,8 @@ bytes-preserved g c =
       counted = omega (arith, length-append now.text (c.in-Ok-Some.byte ∷ []), now.counted, took.place);
       scanning = took.scanning;
       symbols = now.symbols ++ (letters_in found.ended ++ letters_in found.begun);
-      telling = telling_more c.bytes.scanner c.take-founds.new.self now.text c.in-Ok-Some.byte now.symbols (kept c.bytes.tables).faults
-          (kept c.put.new.tables).faults found now.telling (took.told now.telling.letters now.telling.reads) c.in-Ok.ensures.added;
+      telling = telling_more c.bytes.scanner c.take-founds.new.self now.text c.in-Ok-Some.byte now.symbols (tables_model c.bytes.tables).faults
+          (tables_model c.put.new.tables).faults found now.telling (took.told now.telling.letters now.telling.reads) c.in-Ok.ensures.added;
       puts = puts_more now.symbols (letters_in found.ended ++ letters_in found.begun) (view c.args.out.now c.args.store.now)
           (view c.bytes.out c.bytes.store) (view c.put.new.out c.put.new.store) (journal c.args.store.now) (journal c.bytes.store)
           (journal c.put.new.store) now.puts c.in-Ok.ensures.puts;
@@ -142,9 +142,9 @@ returns-in-Ok-put-clause-told g c =
     let puts = puts_more now.symbols (letters_in found.ended ++ letters_in found.begun) (view c.args.out.now c.args.store.now)
     (view c.bytes.out c.bytes.store) (view c.put-2.new.out c.put-2.new.store) (journal c.args.store.now) (journal c.bytes.store)
     (journal c.put-2.new.store) now.puts c.in-Ok-put.ensures.puts in
-    let listed = telling_ends c.bytes.scanner now.text now.symbols (kept c.bytes.tables).faults (kept c.put-2.new.tables).faults found
+    let listed = telling_ends c.bytes.scanner now.text now.symbols (tables_model c.bytes.tables).faults (tables_model c.put-2.new.tables).faults found
     now.telling (c.end-founds.ensures.told now.telling.letters now.telling.reads) c.end-founds.ensures.begun c.in-Ok-put.ensures.added
     in
-    tells_tape (left c.args.tape.now) now.text (left c.bytes.tape) (left c.next_byte.new.tape) symbols (kept c.put-2.new.tables).faults
+    tells_tape (left c.args.tape.now) now.text (left c.bytes.tape) (left c.next_byte.new.tape) symbols (tables_model c.put-2.new.tables).faults
     (view c.args.out.now c.args.store.now) (view c.put-2.new.out c.put-2.new.store) (journal c.args.store.now)
     (journal c.put-2.new.store) c.end-founds.new.self.state.here.at now.read given (same ∙ sym now.counted) listed puts

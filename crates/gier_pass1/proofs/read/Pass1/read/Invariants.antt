@@ -1,6 +1,6 @@
 use Rattle.std.proofs.Common.{◌-◌}
 use Rattle.gier_pass1.specs.Program.{longest}
-use Rattle.gier_pass1.proofs.Keeping.{IsReading}
+use Rattle.gier_pass1.proofs.ScanInvariant.{IsReading}
 use Rattle.gier_pass1.proofs.read.Pass1.read.Given as goal
 
 abbrev pub invariant-bytes : goal.invariant-bytes

@@ -2,9 +2,9 @@ use Rattle.std.proofs.Common.{sym, ap, ◌∙◌, Some}
 use Rattle.gier_strop.specs.Reading.{behind}
 use Rattle.gier_pass1.specs.declared.state.State.{State}
 use Rattle.gier_pass1.specs.declared.state.Step.{Step}
-use Rattle.gier_pass1.specs.Scan.{passed}
+use Rattle.gier_pass1.specs.Scan.{at_next_byte}
 use Rattle.gier_pass1.specs.Scanning.{begun_step, letters_behind}
-use Rattle.gier_pass1.proofs.Kept.{ended_reader, ended_start}
+use Rattle.gier_pass1.proofs.SpellingKept.{ended_reader, ended_start}
 use Rattle.gier_pass1.proofs.scanner.Scanner.take.Goals as goal
 
 pub returns-clause-told : goal.returns-clause-told
@@ -19,6 +19,6 @@ returns-clause-told c = λ letters reads.
     record {
       ended = ap (λ (t : Step). t.found) ended.is_step;
       begun = ap (λ (t : Step). t.found) begun;
-      state = c.passed-self.ensures ∙ ap (λ (t : Step). passed t.state byte) begun;
+      state = c.passed-self.ensures ∙ ap (λ (t : Step). at_next_byte t.state byte) begun;
       reader = reader ∙ ap (λ (t : State). behind t.spelling (letters_behind s letters (Some byte))) (sym c.passed-self.ensures);
     }

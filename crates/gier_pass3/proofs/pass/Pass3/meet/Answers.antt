@@ -1,27 +1,27 @@
 use Rattle.std.proofs.Common.{◌≡◌, ◌∙◌, Bool, false, sym, subst, ap, arith}
-use Rattle.gier_text.specs.Growth.{weight}
-use Rattle.gier_text.specs.Kept.{kept}
+use Rattle.gier_text.specs.Potential.{potential}
+use Rattle.gier_text.specs.TablesModel.{tables_model}
 use Rattle.gier_text.specs.Lists.{TableList}
-use Rattle.gier_text.specs.Outbox.{waiting}
+use Rattle.gier_text.specs.Outbox.{outbox_symbols}
 use Rattle.gier_pass3.specs.Found.{Follows}
 use Rattle.gier_pass3.proofs.Following.{one_passed, one_refused, one_taken}
 use Rattle.gier_pass3.proofs.pass.Pass3.meet.Goals as goal
 
 pub returns-in-Refused-clause-follows : goal.returns-in-Refused-clause-follows
 returns-in-Refused-clause-follows c = λ e items.
-    let t = kept c.args.tables.now in
-    let u = kept c.loop-wanted.tables in
+    let t = tables_model c.args.tables.now in
+    let u = tables_model c.loop-wanted.tables in
     let pops = c.in-Some.ensures.read (c.loop-wanted.invariant.passed items).items in
-    let none = one_refused c.args.kind t u (kept c.pop.new.tables) c.in-Some.wanted c.args.s (c.loop-wanted.invariant.passed items) pops (sym c.in-Refused.ensures.value) e in
-    subst (λ (b : Bool). Follows b c.args.s t (kept c.fail.new.tables)) (sym c.fail.ensures.stopped) none
+    let none = one_refused c.args.kind t u (tables_model c.pop.new.tables) c.in-Some.wanted c.args.s (c.loop-wanted.invariant.passed items) pops (sym c.in-Refused.ensures.value) e in
+    subst (λ (b : Bool). Follows b c.args.s t (tables_model c.fail.new.tables)) (sym c.fail.ensures.stopped) none
 
 pub returns-in-Taken-clause-follows : goal.returns-in-Taken-clause-follows
 returns-in-Taken-clause-follows c = λ e items.
-    let t = kept c.args.tables.now in
-    let u = kept c.loop-wanted.tables in
-    let w = kept c.take_by.new.tables in
+    let t = tables_model c.args.tables.now in
+    let u = tables_model c.loop-wanted.tables in
+    let w = tables_model c.take_by.new.tables in
     let pops = c.in-Some.ensures.read (c.loop-wanted.invariant.passed items).items in
-    let takes = one_taken c.args.kind t u (kept c.pop.new.tables) w c.in-Some.wanted c.in-Taken.rule c.args.s (c.loop-wanted.invariant.passed items) pops (sym c.in-Taken.ensures.value) c.take_by.ensures.read c.take_by.ensures.items e in
+    let takes = one_taken c.args.kind t u (tables_model c.pop.new.tables) w c.in-Some.wanted c.in-Taken.rule c.args.s (c.loop-wanted.invariant.passed items) pops (sym c.in-Taken.ensures.value) c.take_by.ensures.read c.take_by.ensures.items e in
     let goes : c.take_by.new.self.stopped ≡ false = c.take_by.ensures.moves.stopped ∙ c.loop-wanted.invariant.stopped ∙ c.requires.going in
     subst (λ (b : Bool). Follows b c.args.s t w) (sym goes) takes
 
@@ -32,9 +32,9 @@ loop-wanted-preserved c =
     let moves = c.pass_by-opened.ensures.moves in
     record {
       holds = moves.holds;
-      light = omega (arith, inv.light, moves.load, c.in-Some.ensures.paid, ap (λ (l : TableList). weight 3 (waiting l)) c.in-Some.ensures.held, ap (λ (l : TableList). weight 3 (waiting l)) c.in-Some.ensures.ready);
+      light = omega (arith, inv.light, moves.load, c.in-Some.ensures.paid, ap (λ (l : TableList). potential 3 (outbox_symbols l)) c.in-Some.ensures.held, ap (λ (l : TableList). potential 3 (outbox_symbols l)) c.in-Some.ensures.ready);
       deep = omega (arith, inv.deep, moves.depth, c.in-Some.ensures.less);
-      passed = λ items. one_passed c.args.kind (kept c.args.tables.now) (kept c.loop-wanted.tables) (kept c.pop.new.tables) (kept c.pass_by-opened.new.tables) c.in-Some.wanted (inv.passed items) (c.in-Some.ensures.read (inv.passed items).items) (sym c.in-Passed.ensures.value) c.pass_by-opened.ensures.stack;
+      passed = λ items. one_passed c.args.kind (tables_model c.args.tables.now) (tables_model c.loop-wanted.tables) (tables_model c.pop.new.tables) (tables_model c.pass_by-opened.new.tables) c.in-Some.wanted (inv.passed items) (c.in-Some.ensures.read (inv.passed items).items) (sym c.in-Passed.ensures.value) c.pass_by-opened.ensures.stack;
       bytes = moves.bytes ∙ inv.bytes;
       read = moves.read ∙ inv.read;
       stopped = moves.stopped ∙ inv.stopped;

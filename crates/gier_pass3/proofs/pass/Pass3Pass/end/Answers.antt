@@ -1,7 +1,7 @@
 use Rattle.std.proofs.Common.{arith, ap, length, List, ◌*◌, ◌+◌}
 use Rattle.gier_symbol.specs.declared.symbol.Symbol.{Symbol}
-use Rattle.gier_text.specs.Kept.{kept}
-use Rattle.gier_text.proofs.Driven.{OnOk-map}
+use Rattle.gier_text.specs.TablesModel.{tables_model}
+use Rattle.gier_text.proofs.DriveLoop.{OnOk-map}
 use Rattle.gier_pass3.specs.Lists.{ready_by}
 use Rattle.gier_pass3.proofs.Loads.{length_weight}
 use Rattle.gier_pass3.proofs.GoingOn.{less_more, both_ok, relates_whole}
@@ -18,5 +18,5 @@ returns-clause-bounded g c = λ whole.
 pub returns-clause-ok : goal.returns-clause-ok
 returns-clause-ok g c =
     let pass = c.args.self.now in
-    let t = kept c.args.tables.now in
+    let t = tables_model c.args.tables.now in
     both_ok c.flush.result _ _ _ (λ wrote emptied. (ready_by t, wrote, λ read written stands. rw emptied (relates_whole pass t read written stands))) c.flush.ensures.written c.flush.ensures.emptied

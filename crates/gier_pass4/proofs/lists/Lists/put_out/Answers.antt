@@ -1,6 +1,6 @@
-use Rattle.gier_text.specs.Kept.{kept}
-use Rattle.gier_pass4.proofs.Replaced.{grows_out}
+use Rattle.gier_text.specs.TablesModel.{tables_model}
+use Rattle.gier_pass4.proofs.ListReplacement.{grows_out}
 use Rattle.gier_pass4.proofs.lists.Lists.put_out.Goals as goal
 
 pub returns-clause-grows : goal.returns-clause-grows
-returns-clause-grows c = grows_out (kept c.args.tables.now) (kept c.put.new.tables) _ c.put.ensures.adds
+returns-clause-grows c = grows_out (tables_model c.args.tables.now) (tables_model c.put.new.tables) _ c.put.ensures.adds

@@ -1,11 +1,11 @@
 use Rattle.std.proofs.Common.{◌<◌, ◌+◌, ◌*◌, arith, refl, subst}
 use Rattle.gier_symbol.specs.declared.symbol.Symbol.{Symbol}
-use Rattle.gier_text.specs.Kept.{kept}
+use Rattle.gier_text.specs.TablesModel.{tables_model}
 use Rattle.gier_text.specs.Outbox.{if_any}
-use Rattle.gier_text.proofs.Driven.{OnOk-map}
+use Rattle.gier_text.proofs.DriveLoop.{OnOk-map}
 use Rattle.gier_pass8.specs.declared.pass.Pass8.{Pass8}
-use Rattle.gier_pass8.proofs.Settled.{IsTaken}
-use Rattle.gier_pass8.proofs.Standing.{stands_more}
+use Rattle.gier_pass8.proofs.FromTheEndSteps.{IsTaken}
+use Rattle.gier_pass8.proofs.InvariantSteps.{stands_more}
 use Rattle.gier_pass8.proofs.pass.Pass8Pass.take.Goals as goal
 
 pub returns-clause-ok : goal.returns-clause-ok
@@ -14,8 +14,8 @@ returns-clause-ok g c =
     let new : Pass8 = record { taken = pass.taken + 1; work = c.step-written.new.self } in
     let fits : pass.taken < 24 * pass.work.bytes + 64 = omega (arith, c.if-self-most.false, c.most.ensures) in
     let room = 20 * pass.work.bytes + 64 in
-    let old = kept c.args.tables.now in
-    let tables = kept c.step-written.new.tables in
+    let old = tables_model c.args.tables.now in
+    let tables = tables_model c.step-written.new.tables in
     let step : IsTaken room c.symbol-symbol.result pass.work.place c.step-written.new.self.place old tables c.step-written.result = record {
       labels = c.step-written.ensures.labels;
       needs = c.step-written.ensures.needs;
@@ -29,6 +29,6 @@ returns-clause-ok g c =
       if_any c.step-written.result,
       wrote,
       λ read written stands.
-          stands_more pass new (kept c.args.tables.now) (kept c.step-written.new.tables) read written c.args.s.symbol c.step-written.result stands
+          stands_more pass new (tables_model c.args.tables.now) (tables_model c.step-written.new.tables) read written c.args.s.symbol c.step-written.result stands
           fits refl c.step-written.ensures.bytes c.step-written.ensures.lists.lists c.step-written.ensures.written taken,
     )) c.write_any.ensures.written

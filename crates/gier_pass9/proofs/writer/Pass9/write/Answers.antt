@@ -3,16 +3,16 @@ use Rattle.std.proofs.lemmas.List.Elements.{All-append}
 use Rattle.std.specs.Prelude.{IsTrue}
 use Rattle.gier_symbol.specs.declared.symbol.Symbol.{Symbol}
 use Rattle.gier_symbol.specs.Texts.{stands_in}
-use Rattle.gier_text.specs.Kept.{kept}
+use Rattle.gier_text.specs.TablesModel.{tables_model}
 use Rattle.gier_text.specs.View.{View}
-use Rattle.gier_text.proofs.Driven.{OnOk-map, reads_end}
-use Rattle.gier_text.proofs.Driven.{reads_none, reads_more, apart_as, tracks_more, tracks_none, next_told, place_more}
+use Rattle.gier_text.proofs.DriveLoop.{OnOk-map, reads_end}
+use Rattle.gier_text.proofs.DriveLoop.{reads_none, reads_more, apart_as, tracks_more, tracks_none, next_told, place_more}
 use Rattle.gier_pass9.specs.Object.{tracks_of}
-use Rattle.gier_pass9.specs.Making.{no_marks, mark_in, marks_of, marks_behind, words_with, HasWords}
+use Rattle.gier_pass9.specs.ObjectOfText.{no_marks, mark_in, marks_of, marks_behind, words_with, HasWords}
 use Rattle.gier_pass9.specs.Words.{room_of}
-use Rattle.gier_pass9.specs.Written.{IsWrong, word_log, words_for}
-use Rattle.gier_pass9.proofs.Made.{words_same, marks_same, made_more, makes_end, read_end}
-use Rattle.gier_pass9.proofs.Written.{fills_none, fills_more, fills_read, fills_end, fills_whole, wrote_word, words_more, wrong_next, right_text, stop_as, stop_never, one_letter}
+use Rattle.gier_pass9.specs.PassOutput.{IsWrong, word_log, words_for}
+use Rattle.gier_pass9.proofs.WordsMade.{words_same, marks_same, made_more, makes_end, read_end}
+use Rattle.gier_pass9.proofs.PassSteps.{fills_none, fills_more, fills_read, fills_end, fills_whole, wrote_word, words_more, wrong_next, right_text, stop_as, stop_never, one_letter}
 use Rattle.gier_pass9.proofs.writer.Pass9.write.Goals as goal
 
 pub loop-s-init : goal.loop-s-init
@@ -83,11 +83,11 @@ loop-s-preserved g c =
       marks = marks_behind c.room-labels.result c.loop-s.object.count s now.marks;
       words = now.words ++ words_with now.marks s;
       known = λ label. c.in-Ok.ensures.marks label
-          ∙ marks_same c.room-labels.result c.loop-s.object.count s (marks_of (kept c.loop-s.tables)) now.marks now.known label;
+          ∙ marks_same c.room-labels.result c.loop-s.object.count s (marks_of (tables_model c.loop-s.tables)) now.marks now.known label;
       made = made_more c.room-labels.result now.read s now.words now.marks c.loop-s.object.count c.take.new.object.count now.made
           c.in-Ok.ensures.count;
       has = subst (λ (ws : List ℕ). HasWords c.take.new.object (g.D.Drum.tracks c.take.new.drum) (now.words ++ ws))
-          (words_same (marks_of (kept c.loop-s.tables)) now.marks now.known s) (c.in-Ok.ensures.made now.words (rw tracks now.has));
+          (words_same (marks_of (tables_model c.loop-s.tables)) now.marks now.known s) (c.in-Ok.ensures.made now.words (rw tracks now.has));
       filled = rw (c.take.ensures.text, c.in-Ok.ensures.count) (fills_more (view c.args.text.now c.args.drum.now) (view c.loop-s.text c.loop-s.drum) (view c.read_next.new.self c.read_next.new.store) c.args.first_track (c.loop-s.object.count / 40) ((c.loop-s.object.count + words_for s) / 40) (word_log s c.args.first_track c.loop-s.object.count) (g.D.Drum.journal c.args.drum.now) (g.D.Drum.journal c.loop-s.drum) (g.D.Drum.journal c.read_next.new.store) (g.D.Drum.journal c.take.new.drum) now.filled logged wrote (wrote_word s c.args.first_track c.loop-s.object.count));
     }
 

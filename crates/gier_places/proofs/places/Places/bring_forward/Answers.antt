@@ -1,9 +1,9 @@
 use Rattle.std.proofs.Common.{◌≡◌, ◌++◌, ◌∙◌, List, length, take, drop, ap, sym, arith}
 use Rattle.gier_places.specs.declared.slots.Slot.{Slot}
 use Rattle.gier_places.specs.Contents.{Contents}
-use Rattle.gier_places.specs.Held.{Held, held_at, held_in, moved_first}
-use Rattle.gier_places.proofs.Moving.{length-moved, map-moved, whole}
-use Rattle.gier_places.proofs.Apart.{placed-moved}
+use Rattle.gier_places.specs.HeldTracks.{HeldTrack, held_at, held_in, moved_first}
+use Rattle.gier_places.proofs.MoveToFront.{length-moved, map-moved, whole}
+use Rattle.gier_places.proofs.SlotsApart.{placed-moved}
 use Rattle.gier_places.proofs.places.Places.bring_forward.Goals as goal
 
 pub invariant_of-self : goal.invariant_of-self
@@ -32,4 +32,4 @@ returns-clause-held c =
     let long : length new ≡ inside.slots.len = ap length is ∙ length-moved items c.args.place ∙ sym inside.slots.ok.0 in
     let same : take inside.slots.len (new ++ drop (length new) items) ≡ new = whole items new inside.slots.len long in
     let view : held_in inside.words.items items ≡ c.args.self.now.held = ap (λ (a : Contents). a.held) c.self.view_is in
-    rw (same, is) (map-moved (held_at inside.words.items) items c.args.place ∙ ap (λ (held : List Held). moved_first held c.args.place) view)
+    rw (same, is) (map-moved (held_at inside.words.items) items c.args.place ∙ ap (λ (held : List HeldTrack). moved_first held c.args.place) view)

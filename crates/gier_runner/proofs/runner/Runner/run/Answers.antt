@@ -1,12 +1,12 @@
 use Rattle.std.proofs.Common.{rules, ap, sym, subst}
-use Rattle.gier_library.specs.Seen.{stand_of}
+use Rattle.gier_library.specs.DataView.{stand_of}
 use Rattle.gier_exec.specs.Reading.{seen}
 use Rattle.gier_exec.specs.Rows.{code_in}
-use Rattle.gier_runner.specs.Running.{Counted}
+use Rattle.gier_runner.specs.RunInvariant.{Counted}
 use Rattle.gier_runner.specs.State.{State, Begun}
 use Rattle.gier_runner.proofs.Numbers.{begun_counts}
-use Rattle.gier_runner.proofs.Turns.{Now, Runs, now}
-use Rattle.gier_runner.proofs.Wholes.{begins_agreed, unread_so, stack_so, whole_run, told_run}
+use Rattle.gier_runner.proofs.RunSteps.{Now, Runs, now}
+use Rattle.gier_runner.proofs.WholeRuns.{begins_agreed, unread_so, stack_so, whole_run, told_run}
 use Rattle.gier_runner.proofs.runner.Runner.run.Goals as goal
 
 -- src/runner.rt:110:9

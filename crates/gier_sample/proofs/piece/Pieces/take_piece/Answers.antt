@@ -1,4 +1,4 @@
-use Rattle.gier_sample.proofs.Behind.{tail_left}
+use Rattle.gier_sample.proofs.LastPiece.{tail_left}
 use Rattle.gier_sample.proofs.piece.Pieces.take_piece.Goals as goal
 
 pub returns-then-self-eq0 : goal.returns-then-self-eq0

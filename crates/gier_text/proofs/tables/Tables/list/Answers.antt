@@ -1,5 +1,5 @@
 use Rattle.std.proofs.Common.{◌<◌, ◌^◌, arith}
-use Rattle.gier_text.proofs.Laid.{laid_opened}
+use Rattle.gier_text.proofs.ListExtents.{laid_opened}
 use Rattle.gier_text.proofs.tables.Tables.list.Goals as goal
 
 pub invariant_of-self-clause-laid : goal.invariant_of-self-clause-laid

@@ -2,8 +2,8 @@ use Rattle.std.proofs.Common.{◌≡◌, ◌≤◌, ◌<◌, ◌⊎◌, ◌+◌,
 use Rattle.std.proofs.lemmas.List.{length-map}
 use Rattle.gier_text.specs.declared.extent.Extent.{Extent}
 use Rattle.gier_text.specs.Lists.{TableList, list_in, nth_extent}
-use Rattle.gier_text.specs.Kept.{Kept}
-use Rattle.gier_text.proofs.Laid.{laid_counted, lists_pushed, list_at-map, counted}
+use Rattle.gier_text.specs.TablesModel.{TablesModel}
+use Rattle.gier_text.proofs.ListExtents.{laid_counted, lists_pushed, list_at-map, counted}
 use Rattle.gier_text.proofs.tables.Tables.push.Goals as goal
 
 pub invariant_of-self-clause-laid : goal.invariant_of-self-clause-laid
@@ -31,5 +31,5 @@ returns c =
     let new = c.copy.new.words.words in
     let written = subst (λ (p : ℕ). (k : ℕ) → k < length entry → get_or new (p + k) 0 ≡ get_or entry k 0) place c.copy.ensures.written in
     let others = subst (λ (p : ℕ). (k : ℕ) → (k < p) ⊎ (p + length entry ≤ k) → get_or new k 0 ≡ get_or old k 0) place c.copy.ensures.kept in
-    let make : List TableList → Kept = λ l. record { limit = t.limit; used = t.used; lists = l; faults = t.faults.items } in
+    let make : List TableList → TablesModel = λ l. record { limit = t.limit; used = t.used; lists = l; faults = t.faults.items } in
     ap make (ap (λ (x : List Extent). map (list_in new) x) is ∙ lists_pushed t.lists.items t.used c.args.list old new entry t.laid (omega (arith, t.sized, t.fits)) il room wide c.copy.ensures.size written others)

@@ -1,0 +1,6 @@
+use Rattle.gier_text.specs.TablesModel.{tables_model}
+use Rattle.gier_pass7.specs.StateInvariants.{PreservesState}
+use Rattle.gier_pass7.proofs.state.State.take_again.Given as goal
+
+abbrev pub invariant-loop-at : goal.invariant-loop-at
+invariant-loop-at l = PreservesState l.initial.self (tables_model l.initial.tables) l.self (tables_model l.tables)
