@@ -1,0 +1,1 @@
+au BufRead,BufNewFile *.alg setfiletype algol60
