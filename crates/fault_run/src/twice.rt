@@ -1,11 +1,11 @@
 // The work over devices one of which fails, and then over sound ones with the same runner.
 ghost use Rattle.std.specs.Prelude.{◌≡◌, [], false};
 ghost use Rattle.gier_text.specs.TablesModel.{tables_model};
-ghost use Rattle.gier_areas.specs.Areas.{longest};
+ghost use Rattle.gier_limits.specs.Areas.{longest};
 ghost use Rattle.gier_job.specs.Command.{IsFew, IsWithin};
 
 use crate::fails::Fails;
-use gier_areas::{LIMIT, tracks_for};
+use gier_limits::{LIMIT, tracks_for};
 use gier_drum::{Drum, FailingDrum, RoomFault};
 use gier_io::{FailingSink, FailingSource, Sink, Source};
 use gier_job::{Command, Status, work};

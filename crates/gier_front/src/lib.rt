@@ -8,7 +8,7 @@ mod stage;
 mod stages;
 mod stop;
 
-pub use gier_areas::{LIMIT, first_track, tracks_for};
+pub use gier_limits::{LIMIT, first_track, tracks_for};
 pub use gier_text::Fronted;
 pub use passes::front;
 pub use pieces::put_both;

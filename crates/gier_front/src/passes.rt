@@ -7,7 +7,7 @@ ghost use Rattle.gier_text.specs.View.{IsEmpty, IsPlacedAs, Rewinds};
 ghost use Rattle.gier_text.specs.declared.text.Way.TheVariants.{Forward};
 ghost use Rattle.gier_pass2.specs.Invariant.{IsTextOne};
 ghost use Rattle.gier_front.specs.declared.stop.FrontStop.TheVariants.{Errors, Read, Drum as DrumStop};
-ghost use Rattle.gier_areas.specs.Areas.{longest, first_of, capacity_of, all_tracks};
+ghost use Rattle.gier_limits.specs.Areas.{longest, first_of, capacity_of, all_tracks};
 ghost use Rattle.gier_symbol.specs.declared.symbol.Symbol.{Symbol};
 ghost use Rattle.gier_symbol.specs.Tape.{program_of};
 ghost use Rattle.gier_front.specs.Early.{early_faults, faults_of_one, FindsEarly, FindsFirst, ArePlain};
@@ -17,7 +17,7 @@ ghost use Rattle.gier_front.specs.Stops.{NotSpoilt};
 
 use crate::stage::{no_faults, run_stage};
 use crate::stop::{FrontStop, of_pass, of_text};
-use gier_areas::{LIMIT, capacity, first_track};
+use gier_limits::{LIMIT, capacity, first_track};
 use gier_drum::Drum;
 use gier_io::Source;
 use gier_pass1::{Pass1, ReadStop};

@@ -2,7 +2,7 @@
 ghost use Rattle.std.specs.Prelude.{◌≡◌, ◌≢◌, ◌≤◌, [], ℕ, List, map, true, false, is_some, Some, IfOk};
 ghost use Rattle.std.specs.String.{string_bytes};
 ghost use Rattle.gier_word.specs.Cause.{HasRisen};
-ghost use Rattle.gier_areas.specs.Areas.{object_tracks, longest};
+ghost use Rattle.gier_limits.specs.Areas.{object_tracks, longest};
 ghost use Rattle.gier_job.specs.Checked.{Prints, PrintsErrors, TakesFor, IsNotSpoilt};
 ghost use Rattle.gier_job.specs.Command.{IsCommand, IsFew, IsWithin, IsFirstWrong};
 ghost use Rattle.gier_job.specs.Answer.{Refuses};
@@ -18,7 +18,7 @@ use crate::command::{Command, read_words};
 use crate::printing::put_wrong_word;
 use crate::status::Status;
 use crate::working::work;
-use gier_areas::{LIMIT, object_track, tracks_for};
+use gier_limits::{LIMIT, object_track, tracks_for};
 use gier_drum::{Drum, RoomFault};
 use gier_io::{Sink, Source};
 use gier_runner::Runner;

@@ -13,7 +13,7 @@ ghost use Rattle.gier_back.specs.Compiled.{IsObject};
 ghost use Rattle.gier_runner.specs.State.{report_of};
 ghost use Rattle.gier_exec.specs.Reading.{tracks_for};
 ghost use Rattle.gier_text.specs.View.{KeepsTracks};
-ghost use Rattle.gier_areas.specs.Areas.{longest, all_tracks, object_tracks, capacity_of, first_of, object_first};
+ghost use Rattle.gier_limits.specs.Areas.{longest, all_tracks, object_tracks, capacity_of, first_of, object_first};
 ghost use Rattle.gier_front.specs.Fronted.{IsFronted, HasTextSix};
 ghost use Rattle.gier_job.specs.Command.{IsWithin};
 ghost use Rattle.gier_job.specs.Status.{of_ending, IsOfRun, IsStop};

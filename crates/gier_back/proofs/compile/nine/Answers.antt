@@ -1,5 +1,5 @@
 use Rattle.std.proofs.Common.{◌∙◌, arith, reverse}
-use Rattle.gier_areas.specs.Areas.{words_of}
+use Rattle.gier_limits.specs.Areas.{words_of}
 use Rattle.gier_pass9.specs.PassOutput.{IsWrong}
 use Rattle.gier_text.specs.TablesModel.{tables_model}
 use Rattle.gier_back.proofs.Stages.{grows_more, tracks_wider, tracks_both, drum_or, left_back, made_of, same_behind, same_before, same_both}

@@ -1,14 +1,8 @@
 // How many tracks texts and objects take, and where they lie on the drum.
 ghost use Rattle.std.specs.Prelude.{◌≡◌, ◌≤◌, ◌^◌};
-ghost use Rattle.gier_areas.specs.Areas.{area_tracks, all_tracks, first_of, capacity_of, words_of, object_first};
+ghost use Rattle.gier_limits.specs.Areas.{area_tracks, all_tracks, first_of, capacity_of, words_of, object_first};
 
-/// The most bytes that a program text may have.
-pub const LIMIT: u32 = 524_288;
-
-// How many symbols a track holds, and how many words.
-const SYMBOLS_ON_TRACK: u32 = 20;
-
-const WORDS_ON_TRACK: u32 = 40;
+use crate::limits::{LONGEST_PROGRAM, SYMBOLS_ON_TRACK, WORDS_ON_TRACK};
 
 // A text has at most so many symbols for each byte of the program, and so many more.
 const GROWTH: u32 = 24;
@@ -53,12 +47,16 @@ pub fn tracks_for(limit: u32) -> u32
 pub fn first_track(text: u8) -> u32
     ensures { result ≡ first_of text }
 {
-    if text % 2 == 1 { area(LIMIT) } else { 0 }
+    if text % 2 == 1 {
+        area(LONGEST_PROGRAM)
+    } else {
+        0
+    }
 }
 
 /// The first track of the object, behind both areas.
 pub fn object_track() -> u32
     ensures { result ≡ object_first }
 {
-    2 * area(LIMIT)
+    2 * area(LONGEST_PROGRAM)
 }
