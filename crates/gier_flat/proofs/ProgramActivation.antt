@@ -3,7 +3,7 @@ use Rattle.std.proofs.Common.{◌≡◌, ℕ, suc, ◌+◌, ◌<◌, ◌≤◌, 
 use Rattle.std.specs.Prelude.{◌==◌, ◌^◌, if◌then◌else◌}
 use Rattle.gier_order.specs.Flat.Region.{level_in}
 use Rattle.gier_order.specs.Flat.Rows.{first_activation}
-use Rattle.gier_order.specs.Flat.Run.{initial_state}
+use Rattle.gier_order.specs.Flat.Run.{machine_at_start}
 use Rattle.gier_tree.specs.declared.kind.Kind.TheVariants.{Label}
 use Rattle.gier_tree.specs.Described.{Described, plain}
 use Rattle.gier_tree.specs.Entries.{label_entries}
@@ -54,7 +54,7 @@ module _ (setting : Setting) (input : List ℕ) (steps : ℕ) (ls : List LabelPl
   lives = record { shape = InProgram; words = 3 + need } ∷ []
 
   abbrev pub m0 : Machine
-  m0 = initial_state 0 input steps
+  m0 = machine_at_start 0 input steps
 
   abbrev pub m1 : Machine
   m1 = to setting.text setting.size setting.ends m0 (record (first_activation (object setting.text) setting.size m0.regs 1 (3 + need)) { place = 1 })

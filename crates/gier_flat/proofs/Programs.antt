@@ -3,7 +3,7 @@ use Rattle.std.proofs.Common.{◌≡◌, ℕ, ◌+◌, ◌<◌, ◌≤◌, Bool,
 use Rattle.std.specs.Prelude.{◌^◌, max, nat_lt, if◌then◌else◌}
 use Rattle.std.proofs.lemmas.Bool.{ltb-true, ltb-false}
 use Rattle.gier_order.specs.declared.operation.Operation.TheVariants as op
-use Rattle.gier_order.specs.Flat.Run.{flat, initial_state}
+use Rattle.gier_order.specs.Flat.Run.{flat, machine_at_start}
 use Rattle.gier_order.specs.Flat.Rows.{first_activation}
 use Rattle.gier_tree.specs.Orders as code
 use Rattle.gier_tree.specs.Orders.{Following, order, room_order, behind_word}
@@ -74,7 +74,7 @@ module _ (setting : Setting) where
     lives = record { shape = InProgram; words = room } ∷ []
 
     abbrev pub m0 : Machine
-    m0 = initial_state 0 input steps
+    m0 = machine_at_start 0 input steps
 
     abbrev pub m1 : Machine
     m1 = to setting.text setting.size setting.ends m0 (record (first_activation (object setting.text) setting.size m0.regs 1 room) { place = 1 })

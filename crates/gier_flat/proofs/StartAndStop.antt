@@ -16,7 +16,7 @@ use Rattle.gier_order.specs.Flat.Row.{Regs, Ending, On, Ends, Row, plain, needs,
 use Rattle.gier_order.specs.Flat.Row as row
 use Rattle.gier_order.specs.Flat.Rows as rows
 use Rattle.gier_order.specs.Flat.Rows.{effect, does, on_order, first_activation}
-use Rattle.gier_order.specs.Flat.Run.{with_row, exec, one, Over, Final, initial_state}
+use Rattle.gier_order.specs.Flat.Run.{with_row, exec, one, Over, Final, machine_at_start}
 use Rattle.gier_tree.specs.Orders as code
 use Rattle.gier_tree.specs.Orders.{Following, order, room_order, number_of, behind_word}
 use Rattle.gier_tree.specs.Object.{need_behind, address_in, head_of}
@@ -66,7 +66,7 @@ module _ (setting : Setting) where
     started_room = words + need
 
     abbrev pub start : Machine
-    start = initial_state 0 input steps
+    start = machine_at_start 0 input steps
 
     pub behind_start : At setting.text (behind_word st line) (go (behind_word st line))
     behind_start = behind setting.text st (behind_word st line) (tagged OpenRoom (number_of op.Start * 2 ^ 32 + 1 * 2 ^ 24 + words) line) (go (behind_word st line)) stands (λ e. absurd (omega (arith, e))) (omega arith)

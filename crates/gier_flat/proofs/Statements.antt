@@ -54,7 +54,7 @@ use Rattle.gier_tree.specs.Entries.{numbers_unconditional}
 use Rattle.gier_tree.specs.OwnCount.{owns_in_unconditional}
 use Rattle.gier_tree.specs.Need.{need_statement, need_statements, need_unconditional, need_basic, need_group, need_conditional}
 use Rattle.gier_tree.specs.Trees.{LabelPlace, Group, MkBlock, MkCompound, Statements, NoStatements, MoreStatements, Statement, OneUnconditional, OneConditional, OneLoop, Unconditional, MkUnconditional, Basic, OneGroup, Assign, Jump, CallStatement, Dummy, Conditional, IfThen, IfElse, IfLoop}
-use Rattle.gier_meaning.specs.Plain.{statement, statements, unconditional, basic, group, conditional, with_labels as with_labels}
+use Rattle.gier_meaning.specs.Plain.{statement, statements, unconditional, basic, group, conditional, with_labels}
 use Rattle.gier_meaning.specs.Tree as plain_tree
 use Rattle.gier_env.specs.Statements.{run, run_all}
 use Rattle.gier_meaning.specs.State.{with_printed}
