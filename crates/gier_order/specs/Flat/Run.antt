@@ -64,8 +64,8 @@ abbrev pub enough : List ℕ → State → ℕ
 enough code s = suc (rounds (length code) (suc (great s)))
 
 -- all registers and words begin as 0
-abbrev pub initial_state : (start : ℕ) → List ℕ → (steps : ℕ) → State
-initial_state start input steps = record {
+abbrev pub machine_at_start : (start : ℕ) → List ℕ → (steps : ℕ) → State
+machine_at_start start input steps = record {
   regs = record {
     place = start;
     r = 0;
@@ -116,4 +116,4 @@ final_of s Unfinished = record { ending = Spoilt s.regs.place 0; state = s }
 -- the flat run of an object from a start, with these data, so many steps and so many stack words
 abbrev pub flat : List ℕ → (start : ℕ) → List ℕ → (steps size : ℕ) → Report
 flat code start input steps size =
-    report_of steps (final_of (initial_state start input steps) (exec (one code size) (enough code (initial_state start input steps)) (initial_state start input steps)))
+    report_of steps (final_of (machine_at_start start input steps) (exec (one code size) (enough code (machine_at_start start input steps)) (machine_at_start start input steps)))
