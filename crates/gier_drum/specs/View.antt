@@ -22,9 +22,13 @@ Extends (Some old) new = (entries : List Entry) × (new ≡ Some (old ++ entries
 abbrev pub StaysTold : Option (List (List ℕ)) → Option (List (List ℕ)) → Type 0
 StaysTold old new = is_some new ≡ is_some old
 
--- The room is the same, of the tracks this holds, the journal only grows, and the count of faults never falls.
-pub record PreservesDrum (tracks_so : Option (List (List ℕ)) → Option (List (List ℕ)) → Type 0) (old new : DrumView) : Type 0 where
+-- the room is the same, of the tracks this holds, and the count of faults never falls
+pub record KeepsDrum (tracks_so : Option (List (List ℕ)) → Option (List (List ℕ)) → Type 0) (old new : DrumView) : Type 0 where
   pub same_room : new.room ≡ old.room
   pub same_tracks : tracks_so old.tracks new.tracks
-  pub logged : Extends old.journal new.journal
   pub later : old.faults ≤ new.faults
+
+-- the same, and the journal only grows
+pub record PreservesDrum (tracks_so : Option (List (List ℕ)) → Option (List (List ℕ)) → Type 0) (old new : DrumView) : Type 0 where
+  pub keeps : KeepsDrum tracks_so old new
+  pub logged : Extends old.journal new.journal

@@ -1,4 +1,5 @@
--- Why each stage is meant for what the one before it writes.
+-- Why each pass is meant for what the one before it writes. The laws of `PassContract` cite these proofs, and a law may cite
+-- specs alone.
 use Rattle.std.specs.Prelude.{◌≡◌, ◌≤◌, ◌<◌, ◌+◌, ◌-◌, ◌*◌, ◌++◌, ℕ, List, [], ◌∷◌, length, reverse, All, IsTrue, slice_index_or}
 use Rattle.std.proofs.Common.{arith, sym, subst, ◌∙◌, refl, length-append}
 use Rattle.std.proofs.lemmas.List.{length-reverse, reverse-append, get_or-reverse}
@@ -12,7 +13,7 @@ use Rattle.gier_pass2.specs.Invariant.{IsTextOne, Relates}
 use Rattle.gier_pass3.specs.Standing.{IsTextTwo as IsMeantForThree}
 use Rattle.gier_pass5.specs.declared.pass.Pass5.{Pass5}
 use Rattle.gier_pass5.specs.Invariant.{Relates as RelatesFive}
-use Rattle.gier_front.specs.Stages.{IsTextTwo}
+use Rattle.gier_front.specs.Passes.{IsTextTwo}
 
 -- what assembling writes over text 1
 pub assembled : (pass : Pass2) (t : TablesModel) (list written : List Symbol) → IsTextOne pass.bytes list → Relates pass t list written → IsTextTwo pass.bytes written

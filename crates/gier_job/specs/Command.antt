@@ -37,6 +37,11 @@ pub record IsWithin (settings : Settings) : Type 0 where
   pub most : settings.places ≤ 64
   pub stack : settings.stack < 2 ^ 24
 
+-- a command that words may ask for
+pub record IsPermitted (command : Command) : Type 0 where
+  pub few : IsFew command.sample
+  pub within : IsWithin command.settings
+
 -- what holds where no word says otherwise
 abbrev pub plain_command : Bool → Command
 plain_command check = record {
