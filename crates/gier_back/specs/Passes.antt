@@ -16,7 +16,8 @@ pub record Writes (P : List Symbol → Type 0) (new : View) : Type 0 where
   pub relates : P written
 
 -- a text was turned, and as it was then it is still there
-pub record Stays {T S : Type 0} (view : T → S → View) (first end : T → ℕ) (old : T) (store_old : S) (direction : Way) (store : S) : Type 0 where
+pub record Stays {T S : Type 0} (view : T → S → View) (first end : T → ℕ) (old : T) (store_old : S) (direction : Way)
+    (store : S) : Type 0 where
   pub turned : T
   pub place : IsPlacedAs first end old turned
   pub rewinds : Rewinds (view old store_old) direction (view turned store)

@@ -125,13 +125,15 @@ fn run_pass7<T: Text>(
 ) -> Result<(), PassStop>
     requires bytes { bytes ≤ (tables_model tables.old).limit }
     requires can { CanDrive T.view T.first_track T.end_track T.room input.old output.old store.old }
-    ensures passed { Passes T.view T.first_track T.end_track (drum_view T.room T.tracks T.journal T.faults) input.old output.old store.old
+    ensures passed { Passes T.view T.first_track T.end_track
+        (drum_view T.room T.tracks T.journal T.faults) input.old output.old store.old
         output.new store.new result }
     ensures writes { (list : List Symbol) → (T.view input.old store.old).held ≡ Some list
         → (T.view output.old store.old).held ≡ Some []
         → OnOk result (Writes (IsShortSeven 7 bytes) (T.view output.new store.new)) }
     ensures limit { (tables_model tables.new).limit ≡ (tables_model tables.old).limit }
-    ensures sound { T.grows ≡ false → (list : List Symbol) → (T.view input.old store.old).held ≡ Some list → IsWithinPotential 6 bytes list
+    ensures sound { T.grows ≡ false → (list : List Symbol) → (T.view input.old store.old).held ≡ Some list
+        → IsWithinPotential 6 bytes list
         → HasRoom (T.view output.old store.old) (capacity_of bytes) → OnlyDrum result }
 {
     prepare(tables);
@@ -149,7 +151,8 @@ fn run_pass8<T: Text>(
 ) -> Result<(), PassStop>
     requires bytes { bytes ≤ (tables_model tables.old).limit }
     requires can { CanDrive T.view T.first_track T.end_track T.room input.old output.old store.old }
-    ensures passed { Passes T.view T.first_track T.end_track (drum_view T.room T.tracks T.journal T.faults) input.old output.old store.old
+    ensures passed { Passes T.view T.first_track T.end_track
+        (drum_view T.room T.tracks T.journal T.faults) input.old output.old store.old
         output.new store.new result }
     ensures writes { (list : List Symbol) → (T.view input.old store.old).held ≡ Some list
         → (T.view output.old store.old).held ≡ Some []

@@ -21,7 +21,8 @@ pub(crate) fn drive_turned<P: Pass, T: Text>(
 ) -> Result<(), PassStop>
     requires stands { P.stands pass.old tables.old [] [] }
     requires can { CanDrive T.view T.first_track T.end_track T.room input.old output.old store.old }
-    ensures passed { Passes T.view T.first_track T.end_track (drum_view T.room T.tracks T.journal T.faults) input.old output.old store.old
+    ensures passed { Passes T.view T.first_track T.end_track
+        (drum_view T.room T.tracks T.journal T.faults) input.old output.old store.old
         output.new store.new result }
     ensures writes { (list : List Symbol) → (T.view input.old store.old).held ≡ Some list
         → (T.view output.old store.old).held ≡ Some []

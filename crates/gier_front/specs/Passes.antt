@@ -1,5 +1,6 @@
 -- What a pass of the front finds and what it leaves.
-use Rattle.std.specs.Prelude.{◌≡◌, ◌≤◌, ◌+◌, ◌*◌, ℕ, Bool, true, false, List, [], Option, None, Some, Result, Ok, Err, length, All, IsTrue}
+use Rattle.std.specs.Prelude.{◌≡◌, ◌≤◌, ◌+◌, ◌*◌, ℕ, Bool, true, false, List, [], Option, None, Some, Result, Ok, Err, length}
+use Rattle.std.specs.Prelude.{All, IsTrue}
 use Rattle.gier_front.specs.declared.stop.FrontStop.{FrontStop}
 use Rattle.gier_front.specs.declared.stop.FrontStop.TheVariants.{Errors, Read, Drum, Spoilt}
 use Rattle.gier_symbol.specs.declared.symbol.Symbol.{Symbol}
@@ -27,7 +28,8 @@ pub record IsTextTwo (bytes : ℕ) (list : List Symbol) : Type 0 where
   pub few : length list ≤ bytes + 1
 
 -- the pass over a program of so many bytes went to its end, and these symbols stand in its output
-pub record Drives {P T : Type 0} (bytes_of : P → ℕ) (relates : P → T → List Symbol → List Symbol → Type 0) (bytes : ℕ) (read : List Symbol) (tables : T) (held : Option (List Symbol)) : Type 0 where
+pub record Drives {P T : Type 0} (bytes_of : P → ℕ)
+    (relates : P → T → List Symbol → List Symbol → Type 0) (bytes : ℕ) (read : List Symbol) (tables : T) (held : Option (List Symbol)) : Type 0 where
   pub pass : P
   pub written : List Symbol
   pub same : bytes_of pass ≡ bytes

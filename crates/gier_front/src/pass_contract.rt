@@ -1,5 +1,6 @@
 // A text is turned, a pass is driven over it, and a fault that it finds ends the front.
-ghost use Rattle.std.specs.Prelude.{◌≡◌, ◌≤◌, ◌<◌, ◌+◌, ◌*◌, [], ℕ, List, length, OnOk, IsErrOf, IsTrue, true, false, Some, is_some};
+ghost use Rattle.std.specs.Prelude.{◌≡◌, ◌≤◌, ◌<◌, ◌+◌, ◌*◌, [], ℕ, List, length, OnOk, IsErrOf, IsTrue, true, false, Some};
+ghost use Rattle.std.specs.Prelude.{is_some};
 ghost use Rattle.gier_word.specs.Cause.{HasRisen};
 ghost use Rattle.gier_drum.specs.View.{drum_view, KeepsDrum, StaysTold};
 ghost use Rattle.gier_symbol.specs.declared.symbol.Symbol.{Symbol};
@@ -44,7 +45,8 @@ pub(crate) trait PassContract: Pass {
     ghost expected: { (pass : Self) (list : List Symbol) → wants (bytes_of pass) list → Self.expects pass (in_way reads list) };
 
     /// What it writes over such a list.
-    ghost given: { (pass : Self) (tables : Tables) (list written : List Symbol) → wants (bytes_of pass) list → Self.relates pass tables (in_way reads list) written → gives (bytes_of pass) written };
+    ghost given: { (pass : Self) (tables : Tables) (list written : List Symbol) → wants (bytes_of pass) list
+        → Self.relates pass tables (in_way reads list) written → gives (bytes_of pass) written };
 
     /// A text has room for what it writes.
     ghost roomy: { (pass : Self) → Self.most pass ≤ 24 * bytes_of pass + 64 };

@@ -1,5 +1,6 @@
 // The way from the tape to text 6: six passes, one after the other, in which the order of the passes can be read.
-ghost use Rattle.std.specs.Prelude.{◌≡◌, ◌≤◌, ◌<◌, ◌+◌, ◌*◌, ℕ, List, length, OnOk, IfOk, IsErrOf, IsTrue, true, false, Some, is_some, []};
+ghost use Rattle.std.specs.Prelude.{◌≡◌, ◌≤◌, ◌<◌, ◌+◌, ◌*◌, ℕ, List, length, OnOk, IfOk, IsErrOf, IsTrue, true, false, Some};
+ghost use Rattle.std.specs.Prelude.{is_some, []};
 ghost use Rattle.gier_word.specs.Cause.{HasRisen};
 ghost use Rattle.gier_drum.specs.View.{drum_view, KeepsDrum, StaysTold};
 ghost use Rattle.gier_text.specs.SymbolsOnTracks.{tracks_for as tracks_of};

@@ -1,5 +1,6 @@
 -- Which lists of words are a command, and which is the first wrong word of all others.
-use Rattle.std.specs.Prelude.{◌≡◌, ◌≢◌, ◌≤◌, ◌<◌, ◌^◌, ◌-◌, ◌⊎◌, ℕ, Bool, true, false, List, [], ◌∷◌, Option, None, Some, take, length, codes, All, ⊤}
+use Rattle.std.specs.Prelude.{◌≡◌, ◌≢◌, ◌≤◌, ◌<◌, ◌^◌, ◌-◌, ◌⊎◌, ℕ, Bool, true, false, List, [], ◌∷◌, Option, None, Some, take}
+use Rattle.std.specs.Prelude.{length, codes, All, ⊤}
 use Rattle.std.specs.List.{AllZip}
 use Rattle.gier_runner.specs.declared.settings.Settings.{Settings}
 use Rattle.gier_job.specs.Words.{Makes}

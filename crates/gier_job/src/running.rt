@@ -1,5 +1,6 @@
 // Runs a checked program: its object is made, run, and what the command asks for is printed behind what the program printed.
-ghost use Rattle.std.specs.Prelude.{◌≡◌, ◌≢◌, ◌≤◌, ◌<◌, ◌+◌, ◌^◌, ◌++◌, ℕ, List, [], IsOk, IsErr, IsErrOf, IfErr, IfOk, IfSome, OnOk, Some, length, map, take, slice_index, is_some, true, false};
+ghost use Rattle.std.specs.Prelude.{◌≡◌, ◌≢◌, ◌≤◌, ◌<◌, ◌+◌, ◌^◌, ◌++◌, ℕ, List, [], IsOk, IsErr, IsErrOf, IfErr, IfOk, IfSome};
+ghost use Rattle.std.specs.Prelude.{OnOk, Some, length, map, take, slice_index, is_some, true, false};
 ghost use Rattle.gier_word.specs.Cause.{HasCause, HasRisen};
 ghost use Rattle.gier_text.specs.TablesModel.{tables_model};
 ghost use Rattle.gier_drum.specs.View.{drum_view, KeepsDrum, StaysTold};
@@ -24,7 +25,8 @@ ghost use Rattle.gier_job.specs.RunAnswer.{IsRunEnd, IsAnswered, IsDefined};
 ghost use Rattle.gier_frames.specs.Stop.{activations};
 ghost use Rattle.gier_runner.specs.Live.{live_of};
 ghost use Rattle.gier_job.specs.Mortem.{PutsTails};
-ghost use Rattle.gier_job.specs.TailsOfRun.{end_tail, taken_tail, misses_tail, best_plan_tail, cost_tails, count_tails, run_tails, has_mortem};
+ghost use Rattle.gier_job.specs.TailsOfRun.{end_tail, taken_tail, misses_tail, best_plan_tail, cost_tails, count_tails};
+ghost use Rattle.gier_job.specs.TailsOfRun.{run_tails, has_mortem};
 ghost use Rattle.gier_job.specs.declared.status.Status.TheVariants.{Tape, Printer, Drum as DrumStatus};
 
 use crate::Command;
@@ -105,7 +107,8 @@ fn conclude<K: Sink, D: Drum>(
     requires room { all_tracks longest ≤ D.room drum.old }
     ensures put { (tracks notes : List ℕ) → Counts runner.old.recent tracks → HasNoted runner.old.trace notes
         → OnOk result (PutsTails (has_mortem command.now.mortem ending)
-        (run_tails ending command.now (report_of runner.old) runner.old.trace.limit tracks notes) (map live_of (activations runner.old.frames))
+        (run_tails ending command.now (report_of runner.old) runner.old.trace.limit tracks notes)
+        (map live_of (activations runner.old.frames))
         (K.holds out.old) (K.holds out.new)) }
     ensures untouched { command.now.mortem ≡ false → drum.new ≡ drum.old }
     ensures settings { runner.new.settings ≡ runner.old.settings }
@@ -143,7 +146,8 @@ fn put_stopped<K: Sink>(
     ensures traces { runner.new.trace.tracks ≡ runner.old.trace.tracks }
     ensures frames { runner.new.frames ≡ runner.old.frames }
     ensures put { (tracks notes : List ℕ) → Counts runner.old.recent tracks → HasNoted runner.old.trace notes →
-        OnOk result (Puts (K.holds out.old) (end_tail ending ++ count_tails command.now (report_of runner.old) runner.old.trace.limit tracks notes) (K.holds out.new)) }
+        OnOk result (Puts (K.holds out.old) (end_tail ending ++ count_tails command.now
+            (report_of runner.old) runner.old.trace.limit tracks notes) (K.holds out.new)) }
     ensures cause { HasCause (K.faults out.old) (K.faults out.new) result }
 {
     match put_ending(ending, out) {
@@ -174,7 +178,8 @@ fn put_counts<K: Sink>(command: &Command, runner: &mut Runner, out: &mut K) -> R
     ensures traces { runner.new.trace.tracks ≡ runner.old.trace.tracks }
     ensures frames { runner.new.frames ≡ runner.old.frames }
     ensures put { (tracks notes : List ℕ) → Counts runner.old.recent tracks → HasNoted runner.old.trace notes →
-        OnOk result (Puts (K.holds out.old) (count_tails command.now (report_of runner.old) runner.old.trace.limit tracks notes) (K.holds out.new)) }
+        OnOk result (Puts (K.holds out.old) (count_tails command.now
+            (report_of runner.old) runner.old.trace.limit tracks notes) (K.holds out.new)) }
     ensures cause { HasCause (K.faults out.old) (K.faults out.new) result }
 {
     match put_taken(command, runner, out) {
@@ -247,7 +252,8 @@ fn put_cheapest<K: Sink>(command: &Command, runner: &mut Runner, out: &mut K) ->
     ensures traces { runner.new.trace.tracks ≡ runner.old.trace.tracks }
     ensures frames { runner.new.frames ≡ runner.old.frames }
     ensures put { (notes : List ℕ) → HasNoted runner.old.trace notes →
-        OnOk result (Puts (K.holds out.old) (best_plan_tail command.now.best runner.old.trace.limit notes command.now.settings.places) (K.holds out.new)) }
+        OnOk result (Puts (K.holds out.old) (best_plan_tail command.now.best runner.old.trace.limit notes
+            command.now.settings.places) (K.holds out.new)) }
     ensures cause { HasCause (K.faults out.old) (K.faults out.new) result }
 {
     if !command.best {

@@ -1,7 +1,8 @@
 // The tails of a run: how it ended, its report, its table and its cheapest plan. Post-mortem tails stand in mortem.rt.
 ghost use Rattle.std.specs.Prelude.{◌≡◌, ◌≤◌, ◌++◌, codes, length, List, Some, slice_get, take};
 ghost use Rattle.gier_io.specs.View.{sink_view, PutsOrFails};
-ghost use Rattle.gier_job.specs.Tails.{alarm_tail, steps_tail, report_tail, report_transfers, report_words, table_tail, numbers_text, best_tail, moves_text, move_text, too_long_tail};
+ghost use Rattle.gier_job.specs.Tails.{alarm_tail, steps_tail, report_tail, report_transfers, report_words, table_tail};
+ghost use Rattle.gier_job.specs.Tails.{numbers_text, best_tail, moves_text, move_text, too_long_tail};
 
 use crate::printing::put_named;
 use gier_best::Trace;

@@ -1,5 +1,6 @@
 // The work on one tape, for which all room was taken before: the program is checked, and run where that is asked for.
-ghost use Rattle.std.specs.Prelude.{◌≡◌, ◌≢◌, ◌≤◌, ◌<◌, [], OnOk, IfOk, IsErr, IsErrOf, length, true, false, is_some, ℕ, List, Option, Some};
+ghost use Rattle.std.specs.Prelude.{◌≡◌, ◌≢◌, ◌≤◌, ◌<◌, [], OnOk, IfOk, IsErr, IsErrOf, length, true, false, is_some, ℕ, List};
+ghost use Rattle.std.specs.Prelude.{Option, Some};
 ghost use Rattle.gier_word.specs.Cause.{HasRisen};
 ghost use Rattle.gier_drum.specs.View.{drum_view, KeepsDrum, StaysTold};
 ghost use Rattle.gier_text.specs.TablesModel.{tables_model};

@@ -26,8 +26,8 @@ const LAST_PASS: u8 = 8;
 
 const OBJECT_PASS: u8 = 9;
 
-/// Drives the passes from the first to the last one, each over what the one before it wrote, and prints what the last one writes, and
-/// the faults. Passes behind one that finds faults aren't driven. Pass 9 prints the words of the object.
+/// Drives the passes from the first to the last one, each over what the one before it wrote, and prints what the last one writes,
+/// and the faults. Passes behind one that finds faults aren't driven. Pass 9 prints the words of the object.
 pub fn show(rt: &HostRuntime, first: u8, last: u8, symbols: &Symbols) -> io::Result<()> {
     let Ok(mut tables) = Tables::open(rt.alloc(), LIMIT) else {
         return println!(rt; "want of memory");
