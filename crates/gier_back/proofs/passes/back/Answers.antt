@@ -2,7 +2,7 @@ use Rattle.std.proofs.Common.{◌≡◌, ◌∙◌, ◌+◌, ◌*◌, ap, sym, a
 use Rattle.gier_text.proofs.DriveLoop.{risen_from}
 use Rattle.gier_back.specs.Compiled.{IsNoObject}
 use Rattle.gier_text.specs.Own.{found_on}
-use Rattle.gier_back.proofs.Passes.{changes_more, told_on, text_same, err_drum, only_drum, drum_or_as, made_from}
+use Rattle.gier_back.proofs.PassSteps.{changes_more, told_on, text_same, err_drum, only_drum, drum_or_as, made_from}
 use Rattle.gier_word.proofs.Options.{some_same}
 use Rattle.gier_drum.specs.View.{drum_view}
 use Rattle.gier_back.proofs.passes.back.Goals as goal

@@ -1,4 +1,4 @@
-use Rattle.gier_back.proofs.Passes.{blank_on}
+use Rattle.gier_back.proofs.PassSteps.{blank_on}
 use Rattle.gier_back.proofs.passes.blank_text.Goals as goal
 
 pub returns-clause-told : goal.returns-clause-told

@@ -1,5 +1,5 @@
 use Rattle.std.proofs.Common.{◌≡◌, reverse, arith}
-use Rattle.gier_back.proofs.Passes.{short_back, writes_as}
+use Rattle.gier_back.proofs.PassSteps.{short_back, writes_as}
 use Rattle.gier_back.proofs.passes.run_pass8.Goals as goal
 
 pub returns-clause-writes : goal.returns-clause-writes

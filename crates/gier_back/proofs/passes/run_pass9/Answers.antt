@@ -3,7 +3,7 @@ use Rattle.gier_areas.specs.Areas.{words_of}
 use Rattle.gier_pass9.specs.PassOutput.{IsWrong}
 use Rattle.gier_text.specs.TablesModel.{tables_model}
 use Rattle.gier_drum.specs.View.{drum_view}
-use Rattle.gier_back.proofs.Passes.{changes_of, changes_more, drum_or, left_back, made_of, same_behind, same_before, same_both}
+use Rattle.gier_back.proofs.PassSteps.{changes_of, changes_more, drum_or, left_back, made_of, same_behind, same_before, same_both}
 use Rattle.gier_back.proofs.passes.run_pass9.Goals as goal
 
 pub returns-clause-changes : goal.returns-clause-changes
