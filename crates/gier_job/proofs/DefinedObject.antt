@@ -10,7 +10,7 @@ use Rattle.gier_text.proofs.Tabulation.{get_or-tabulated}
 use Rattle.gier_pass9.specs.ObjectOfText.{object_words, HoldsWords}
 use Rattle.gier_back.specs.Compiled.{IsMade}
 use Rattle.gier_exec.specs.Rows.{track_of, word_in, first_of as first_words, code_in}
-use Rattle.gier_front.specs.Stages.{IsToldAs}
+use Rattle.gier_front.specs.Passes.{IsToldAs}
 use Rattle.gier_job.specs.RunAnswer.{IsDefined}
 use Rattle.gier_job.proofs.RunAnswers.{track_is}
 

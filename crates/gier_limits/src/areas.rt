@@ -2,7 +2,7 @@
 ghost use Rattle.std.specs.Prelude.{◌≡◌, ◌≤◌, ◌^◌};
 ghost use Rattle.gier_limits.specs.Areas.{area_tracks, all_tracks, first_of, capacity_of, words_of, object_first};
 
-use crate::limits::{LONGEST_PROGRAM, SYMBOLS_ON_TRACK, WORDS_ON_TRACK};
+use crate::limits::{LIMIT, SYMBOLS_ON_TRACK, WORDS_ON_TRACK};
 
 // A text has at most so many symbols for each byte of the program, and so many more.
 const GROWTH: u32 = 24;
@@ -47,16 +47,12 @@ pub fn tracks_for(limit: u32) -> u32
 pub fn first_track(text: u8) -> u32
     ensures { result ≡ first_of text }
 {
-    if text % 2 == 1 {
-        area(LONGEST_PROGRAM)
-    } else {
-        0
-    }
+    if text % 2 == 1 { area(LIMIT) } else { 0 }
 }
 
 /// The first track of the object, behind both areas.
 pub fn object_track() -> u32
     ensures { result ≡ object_first }
 {
-    2 * area(LONGEST_PROGRAM)
+    2 * area(LIMIT)
 }

@@ -6,6 +6,6 @@ mod limits;
 
 pub use areas::{capacity, first_track, object_track, object_words, tracks_for};
 pub use limits::{
-    ADDRESSES, FIRST_NEW_LABEL, FIRST_OWN_NAME, LINES, LONGEST_PROGRAM, MOST_DATA, ORDER_FIELDS,
+    ADDRESSES, FIRST_NEW_LABEL, FIRST_OWN_NAME, LIMIT, LINES, MOST_DATA, ORDER_FIELDS,
     STANDARD_NAMES, SYMBOLS_ON_TRACK, WORDS_ON_TRACK,
 };

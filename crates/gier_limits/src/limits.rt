@@ -1,6 +1,6 @@
 // The limits of programs, texts, words and the drum, each once. What follows from them for the drum stands in `areas`.
 /// The most bytes that a program text may have.
-pub const LONGEST_PROGRAM: u32 = 524_288;
+pub const LIMIT: u32 = 524_288;
 
 /// The most bytes that the data behind a program may have.
 pub const MOST_DATA: u64 = 16_777_216;
