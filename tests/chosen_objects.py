@@ -1,34 +1,27 @@
 """The objects that tests/objects and tests/addresses run: of programs of the model's generator, and random ones. It runs nothing."""
-import os
 import random
-import subprocess
-import sys
+
+from shared import generated, load
 
 LARGEST = 1 << 40
 SIGNED = 1 << 39
 ORDERS = 55
 
 
-def load(folder):
-    sys.path.insert(0, os.path.abspath(folder))
-    import flat
-    import generate
-    import gier
-    import orders
-    return flat, generate, gier, orders
+def modules():
+    """Of the model: the flat run, the answers, the orders."""
+    return load("flat", "gier", "orders")
 
 
-def made(generate, seed, largest):
+def made(seed, largest):
     """A tape of the generator, without damages."""
     chance = random.Random(seed)
-    words = ["size=%d" % chance.randint(4, largest), "hazard=%d" % chance.randint(0, 3), "spelling=any"]
-    return subprocess.run([sys.executable, generate.__file__, str(seed)] + words, capture_output=True, check=True).stdout
+    return generated(seed, ["size=%d" % chance.randint(4, largest), "hazard=%d" % chance.randint(0, 3), "spelling=any"])
 
 
-def object_of(modules, seed, largest):
+def object_of(gier, seed, largest):
     """The words and the data of a program, or None where it has errors."""
-    _, generate, gier, _ = modules
-    _, _, info = gier.answer(["run", "steps=0"], made(generate, seed, largest))
+    _, _, info = gier.answer(["run", "steps=0"], made(seed, largest))
     if "run" not in info:
         return None
     return list(info["run"].words), bytes(info["run"].data)
@@ -64,20 +57,21 @@ def changed(orders, chance, words):
     return words
 
 
-def chosen(modules, kind, seed):
+def chosen(model, kind, seed):
     """Words, start, data, places, steps and stack of a run, or None where the seed gives none."""
+    _, gier, orders = model
     chance = random.Random(-seed - 1)
     start = 0
     if kind == "random" and chance.random() < 0.6:
-        words, data = hand_made(modules[3], chance)
+        words, data = hand_made(orders, chance)
         start = chance.choice([0, 0, 0, chance.randrange(len(words))])
     else:
-        found = object_of(modules, seed, 20 if kind == "programs" else 6)
+        found = object_of(gier, seed, 20 if kind == "programs" else 6)
         if found is None:
             return None
         words, data = found
         if kind == "random":
-            words = changed(modules[3], chance, words)
+            words = changed(orders, chance, words)
     stack = chance.choice([20, 60, 200, 1000, 20000])
     return words, start, data, chance.randint(1, 64) if chance.random() < 0.5 else chance.randint(1, 4), chance.randint(0, 3000), stack
 

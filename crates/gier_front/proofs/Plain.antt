@@ -10,7 +10,7 @@ use Rattle.gier_symbol.specs.declared.tag.Tag.{Tag}
 use Rattle.gier_symbol.specs.declared.tag.Tag.TheVariants.{Letter, Digit, Identifier, Number, StringBegin, StringByte, StringEnd, TextEnd, End}
 use Rattle.gier_symbol.specs.declared.word.Spelling.{Spelling}
 use Rattle.gier_symbol.specs.declared.word.Spelling.TheVariants.{Plain, Quoted}
-use Rattle.gier_symbol.specs.Assembly.{is, is_letter_or_digit, Run, AName, ANumber, ASymbol, run_at, runs, Piece, pieces, known_by, place_of, comma_at, begins_group, with_commas, standard_names, assembly}
+use Rattle.gier_symbol.specs.Assembly.{is, is_letter_or_digit, Lexeme, AName, ANumber, ASymbol, run_at, runs, Piece, pieces, known_by, place_of, comma_at, begins_group, with_commas, standard_names, assembly}
 use Rattle.gier_pass2.specs.Spelled.{IsSpelled}
 use Rattle.gier_pass3.specs.Found.{IsBare}
 use Rattle.gier_front.specs.Early.{IsPlain, ArePlain}
@@ -171,13 +171,13 @@ bare_by false false true none false false no_letter no_digit other = refl
 bare_by false false false true false false no_letter no_digit other = refl
 bare_by false false false false false false no_letter no_digit other = cc
 
-abbrev pub RunsBare : List Run → Type 0
+abbrev pub RunsBare : List Lexeme → Type 0
 RunsBare [] = Unit {0}
 RunsBare (ASymbol s ∷ rest) = IsBare s × RunsBare rest
 RunsBare (AName name line ∷ rest) = RunsBare rest
 RunsBare (ANumber value line ∷ rest) = RunsBare rest
 
-run_bare : (letter digit : Bool) (s : Symbol) (rest : List Symbol) (go_on : ℕ → List Run) → is Letter s ≡ letter → is Digit s ≡ digit → IsPlain s → ((taken : ℕ) → RunsBare (go_on taken)) → RunsBare (run_at letter digit s rest go_on)
+run_bare : (letter digit : Bool) (s : Symbol) (rest : List Symbol) (go_on : ℕ → List Lexeme) → is Letter s ≡ letter → is Digit s ≡ digit → IsPlain s → ((taken : ℕ) → RunsBare (go_on taken)) → RunsBare (run_at letter digit s rest go_on)
 run_bare true digit s rest go_on l d plain more = more (length (take_while is_letter_or_digit rest))
 run_bare false true s rest go_on l d plain more = more (length (take_while (is Digit) rest))
 run_bare false false s rest go_on l d plain more = (bare_by (is Letter s) (is Digit s) (is StringByte s) (s.value == 0) (is Identifier s) (is Number s) l d plain.other, more 0)
@@ -191,7 +191,7 @@ abbrev pub PiecesBare : List Piece → Type 0
 PiecesBare [] = Unit {0}
 PiecesBare (p ∷ rest) = IsBare p.symbol × PiecesBare rest
 
-pieces_bare : (all : List Run) (known : List (List ℕ)) → RunsBare all → PiecesBare (pieces all known)
+pieces_bare : (all : List Lexeme) (known : List (List ℕ)) → RunsBare all → PiecesBare (pieces all known)
 pieces_bare [] known bare = tt
 pieces_bare (AName name line ∷ rest) known bare = (refl, pieces_bare rest (known_by (place_of name known) name known) bare)
 pieces_bare (ANumber value line ∷ rest) known bare = (refl, pieces_bare rest known bare)

@@ -17,8 +17,8 @@ pub struct Data<'a, S> {
     source: &'a mut S,
     given: u64,
     ended: bool,
-    ghost limited: { bytes_given ≤ limit },
-    ghost below: { has_ended ≡ false → bytes_given < limit },
+    ghost limited: { given ≤ limit },
+    ghost below: { ended ≡ false → given < limit },
 }
 
 impl<'a, S: Source> Data<'a, S> {

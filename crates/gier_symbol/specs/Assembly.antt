@@ -18,10 +18,10 @@ abbrev pub is_letter_or_digit : Symbol → Bool
 is_letter_or_digit s = is Letter s || is Digit s
 
 -- a run of letters and digits that begins with a letter, a run of digits, or a symbol that stays as it is
-pub data Run : Type 0 where
-  AName : (name : List ℕ) → (line : ℕ) → Run
-  ANumber : (value line : ℕ) → Run
-  ASymbol : Symbol → Run
+pub data Lexeme : Type 0 where
+  AName : (name : List ℕ) → (line : ℕ) → Lexeme
+  ANumber : (value line : ℕ) → Lexeme
+  ASymbol : Symbol → Lexeme
 
 -- the byte of a letter or digit
 abbrev pub byte_by : (digit : Bool) → (value : ℕ) → ℕ
@@ -37,12 +37,12 @@ decimal before [] = before
 decimal before (s ∷ digits) = decimal (before * 10 + s.value) digits
 
 -- the runs of these symbols, where so many of them were taken already
-abbrev pub run_at : (letter digit : Bool) → Symbol → (rest : List Symbol) → ((taken : ℕ) → List Run) → List Run
+abbrev pub run_at : (letter digit : Bool) → Symbol → (rest : List Symbol) → ((taken : ℕ) → List Lexeme) → List Lexeme
 run_at true digit s rest go_on = AName (map byte_of (s ∷ take_while is_letter_or_digit rest)) s.line ∷ go_on (length (take_while is_letter_or_digit rest))
 run_at false true s rest go_on = ANumber (decimal 0 (s ∷ take_while (is Digit) rest)) s.line ∷ go_on (length (take_while (is Digit) rest))
 run_at false false s rest go_on = ASymbol s ∷ go_on 0
 
-abbrev pub runs : List Symbol → (taken : ℕ) → List Run
+abbrev pub runs : List Symbol → (taken : ℕ) → List Lexeme
 runs [] taken = []
 runs (s ∷ rest) (suc taken) = runs rest taken
 runs (s ∷ rest) zero = run_at (is Letter s) (is Digit s) s rest (runs rest)
@@ -74,7 +74,7 @@ abbrev pub fault_by : (large : Bool) → (line : ℕ) → List (FaultAt SymbolFa
 fault_by true line faults = record { kind = LargeNumber; line = line } ∷ faults
 fault_by false line faults = faults
 
-abbrev pub number_faults : List Run → List (FaultAt SymbolFault)
+abbrev pub number_faults : List Lexeme → List (FaultAt SymbolFault)
 number_faults [] = []
 number_faults (AName name line ∷ rest) = number_faults rest
 number_faults (ANumber value line ∷ rest) = fault_by (is_large value) line (number_faults rest)
@@ -86,11 +86,11 @@ value_by false value = value
 
 -- a run and its symbol
 pub record Piece : Type 0 where
-  pub run : Run
+  pub run : Lexeme
   pub symbol : Symbol
 
 -- each name is numbered by its first occurrence
-abbrev pub pieces : List Run → (known : List (List ℕ)) → List Piece
+abbrev pub pieces : List Lexeme → (known : List (List ℕ)) → List Piece
 pieces [] known = []
 pieces (AName name line ∷ rest) known =
     let place = place_of name known in
@@ -99,7 +99,7 @@ pieces (ANumber value line ∷ rest) known = record { run = ANumber value line; 
 pieces (ASymbol s ∷ rest) known = record { run = ASymbol s; symbol = s } ∷ pieces rest known
 
 -- `)`, a name of letters only, `:` and `(` are a parameter comma, on the line of the `)`; its name has taken a number
-abbrev pub is_group : Run → Run → Run → Run → Bool
+abbrev pub is_group : Lexeme → Lexeme → Lexeme → Lexeme → Bool
 is_group (ASymbol s) (AName name line) (ASymbol t) (ASymbol u) = is RightParenthesis s && list_all is_letter name && is Colon t && is LeftParenthesis u
 is_group a b c d = false
 

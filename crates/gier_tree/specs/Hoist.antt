@@ -3,6 +3,7 @@
 -- so has each use of it. An own declaration stays in its place, where it declares nothing.
 use Rattle.std.specs.Prelude.{ℕ, zero, suc, ◌+◌, ◌==◌, ◌^◌, List, [], ◌∷◌, ◌++◌, map, length, if◌then◌else◌}
 use Rattle.gier_tree.specs.Declaring.{list_of, formals_of, name_of_heading, own_names, names_of_segment, names_of_segments, labels_of_statement, labels_of_statements, labels_of_program}
+use Rattle.gier_tree.specs.Lines.{last_name}
 use Rattle.gier_tree.specs.OwnCount.{owns_of_program, owns_in_declaration, owns_in_declarations, owns_in_statement, owns_in_unconditional}
 use Rattle.gier_tree.specs.Rename.{Renaming, rename, rename_expr, rename_exprs, rename_call, rename_segment, rename_segments, rename_part, rename_turns, rename_next_turns}
 use Rattle.gier_tree.specs.Trees.{Name, Adding, Expr, OneSimple, OneImplication, OneDisjunction, OneConjunction, OneNegation, OneRelation, OneArithmetic, Signed, OneFactor, OnePrimary, Numeral, only, NextName, Names, MkNames, BoundPair, MkPair, NextPair, Segment, MkSegment, NextSegment, Constant, Unsigned, WithSign, FixedPair, MkFixedPair, Further, NoFurther, MoreFurther, FurtherPairs, most_further, FixedSegment, MkFixed, NextFixed, Heading, LabelPlace, Declaration, DeclareType, DeclareOwn, DeclareArrays, DeclareOwnArrays, DeclareSwitch, DeclareProcedure, Declarations, NoDeclarations, MoreDeclarations, Group, MkBlock, MkCompound, Statements, NoStatements, MoreStatements, Statement, OneUnconditional, OneConditional, OneLoop, Unconditional, MkUnconditional, Basic, OneGroup, Assign, Jump, CallStatement, Dummy, Conditional, IfThen, IfElse, IfLoop, Loop, MkLoop, Program, MkProgram}
@@ -145,16 +146,9 @@ without_own (DeclareOwn l t ns) i = DeclareType t (fresh_names ns i)
 without_own (DeclareOwnArrays k t l s ss) i = DeclareArrays t l (fresh_segment s i) (fresh_segments ss (i + count_fixed s))
 without_own d i = d
 
--- the line of a declaration's last symbol, which the new semicolon has
-abbrev pub last_name : Names → ℕ
-last_name (MkNames x ns) = last_of x.line ns
-  where
-    last_of : ℕ → List NextName → ℕ
-    last_of line [] = line
-    last_of line (n ∷ more) = last_of n.name.line more
-
+-- the line of a declaration's last identifier, which the new semicolon has, also where the `]` of an array stands on a later line
 abbrev pub last_fixed : FixedSegment → List NextFixed → ℕ
-last_fixed (MkFixed ns l p ps m) [] = m
+last_fixed (MkFixed ns l p ps m) [] = last_name ns
 last_fixed s (next ∷ more) = last_fixed next.segment more
 
 abbrev pub last_own : Declaration → ℕ

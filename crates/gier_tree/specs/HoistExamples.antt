@@ -1,7 +1,7 @@
 -- Hoisted programs, told by their spelling: an own declaration still stands in its place.
 use Rattle.std.specs.Prelude.{◌≡◌, true, false, List, [], ◌∷◌, None}
 use Rattle.gier_symbol.specs.declared.symbol.Symbol.{Symbol}
-use Rattle.gier_tree.specs.Trees.{Add, Subtract, Multiply, Divide, LessThan, EqualTo, AtLeast, OneSimple, IfExpr, OneImplication, Equivalent, OneDisjunction, Implies, OneConjunction, Either, OneNegation, Both, OneRelation, Negated, OneArithmetic, Compared, OneTerm, Signed, Summed, OneFactor, Multiplied, OnePrimary, Raised, Numeral, Logical, Bracketed, OneCall, OneElement, Alone, WithActuals, Subscripted, OneExpr, AString, NoActuals, MoreActuals, NoExprs, MoreExprs, only, MkNames, IntegerType, BooleanType, MkPair, MkSegment, Unsigned, WithSign, MkFixedPair, NoFurther, MoreFurther, MkFixed, NoFormals, FormalList, NoValues, ValueSpec, StringSpec, MkHeading, OneName, LeftElement, OneValue, StepUntil, WhileTrue, DeclareType, DeclareOwn, DeclareArrays, DeclareOwnArrays, DeclareSwitch, DeclareProcedure, NoDeclarations, MoreDeclarations, MkBlock, MkCompound, NoStatements, MoreStatements, OneUnconditional, OneConditional, OneLoop, MkUnconditional, OneGroup, Assign, Jump, CallStatement, IfThen, IfElse, MkLoop, Program, MkProgram}
+use Rattle.gier_tree.specs.Trees.{Add, Subtract, Multiply, Divide, LessThan, EqualTo, AtLeast, OneSimple, IfExpr, OneImplication, Equivalent, OneDisjunction, Implies, OneConjunction, Either, OneNegation, Both, OneRelation, Negated, OneArithmetic, Compared, OneTerm, Signed, Summed, OneFactor, Multiplied, OnePrimary, Raised, Numeral, Logical, Bracketed, OneCall, OneElement, Alone, WithActuals, Subscripted, OneExpr, AString, NoActuals, MoreActuals, NoExprs, MoreExprs, only, MkNames, IntegerType, BooleanType, MkPair, MkSegment, Unsigned, WithSign, MkFixedPair, NoFurther, MoreFurther, MkFixed, Dummy, NoFormals, FormalList, NoValues, ValueSpec, StringSpec, MkHeading, OneName, LeftElement, OneValue, StepUntil, WhileTrue, DeclareType, DeclareOwn, DeclareArrays, DeclareOwnArrays, DeclareSwitch, DeclareProcedure, NoDeclarations, MoreDeclarations, MkBlock, MkCompound, NoStatements, MoreStatements, OneUnconditional, OneConditional, OneLoop, MkUnconditional, OneGroup, Assign, Jump, CallStatement, IfThen, IfElse, MkLoop, Program, MkProgram}
 use Rattle.gier_tree.specs.SpellExamples.{at, row}
 use Rattle.gier_tree.specs.Spell.{spell_program}
 use Rattle.gier_tree.specs.Hoist.{hoist}
@@ -48,6 +48,18 @@ own_places = MkProgram ([]) (MkBlock 1 (DeclareOwn 1 (record { type = IntegerTyp
 abbrev pub own_places_symbols : List Symbol
 own_places_symbols = row 36 0 1 ∷ row 47 0 1 ∷ row 3 4294967296 1 ∷ row 28 0 1 ∷ row 3 4294967297 1 ∷ row 30 0 1 ∷ row 47 0 1 ∷ row 49 0 1 ∷ row 3 4294967298 1 ∷ row 34 0 1 ∷ row 4 1 1 ∷ row 29 0 1 ∷ row 4 2 1 ∷ row 35 0 1 ∷ row 30 0 1 ∷ row 36 0 1 ∷ row 55 0 1 ∷ row 47 0 1 ∷ row 3 8 1 ∷ row 28 0 1 ∷ row 3 9 1 ∷ row 30 0 1 ∷ row 55 0 1 ∷ row 47 0 1 ∷ row 49 0 1 ∷ row 3 10 1 ∷ row 34 0 1 ∷ row 4 1 1 ∷ row 29 0 1 ∷ row 4 2 1 ∷ row 35 0 1 ∷ row 30 0 1 ∷ row 50 0 1 ∷ row 3 11 1 ∷ row 31 0 1 ∷ row 3 12 1 ∷ row 30 0 1 ∷ row 51 0 2 ∷ row 3 13 2 ∷ row 32 0 2 ∷ row 3 14 2 ∷ row 28 0 2 ∷ row 3 15 2 ∷ row 33 0 2 ∷ row 30 0 2 ∷ row 47 0 2 ∷ row 3 14 2 ∷ row 30 0 2 ∷ row 52 0 2 ∷ row 3 15 2 ∷ row 30 0 2 ∷ row 3 14 2 ∷ row 31 0 2 ∷ row 3 4294967296 2 ∷ row 30 0 2 ∷ row 36 0 3 ∷ row 47 0 3 ∷ row 49 0 3 ∷ row 3 16 3 ∷ row 34 0 3 ∷ row 3 4294967296 3 ∷ row 29 0 3 ∷ row 3 4294967297 3 ∷ row 35 0 3 ∷ row 30 0 3 ∷ row 3 16 3 ∷ row 34 0 3 ∷ row 3 4294967296 3 ∷ row 35 0 3 ∷ row 31 0 3 ∷ row 3 4294967298 3 ∷ row 34 0 3 ∷ row 3 4294967297 3 ∷ row 35 0 3 ∷ row 37 0 3 ∷ row 30 0 3 ∷ row 3 12 4 ∷ row 29 0 4 ∷ row 41 0 4 ∷ row 3 4294967296 4 ∷ row 31 0 4 ∷ row 3 4294967297 4 ∷ row 42 0 4 ∷ row 3 4294967296 4 ∷ row 43 0 4 ∷ row 3 4294967298 4 ∷ row 34 0 4 ∷ row 4 1 4 ∷ row 35 0 4 ∷ row 28 0 4 ∷ row 3 4294967297 4 ∷ row 44 0 4 ∷ row 11 0 4 ∷ row 3 4294967297 4 ∷ row 15 0 4 ∷ row 3 4294967296 4 ∷ row 45 0 4 ∷ row 3 13 4 ∷ row 32 0 4 ∷ row 32 0 4 ∷ row 3 4294967296 4 ∷ row 10 0 4 ∷ row 3 4294967297 4 ∷ row 12 0 4 ∷ row 3 4294967296 4 ∷ row 33 0 4 ∷ row 28 0 4 ∷ row 5 0 4 ∷ row 6 105 4 ∷ row 7 0 4 ∷ row 33 0 4 ∷ row 30 0 4 ∷ row 38 0 5 ∷ row 21 0 5 ∷ row 3 4294967296 5 ∷ row 17 0 5 ∷ row 3 4294967297 5 ∷ row 22 0 5 ∷ row 26 0 5 ∷ row 23 0 5 ∷ row 3 4294967298 5 ∷ row 34 0 5 ∷ row 3 4294967296 5 ∷ row 35 0 5 ∷ row 14 0 5 ∷ row 3 4294967297 5 ∷ row 13 0 5 ∷ row 4 2 5 ∷ row 18 0 5 ∷ row 4 0 5 ∷ row 24 0 5 ∷ row 27 0 5 ∷ row 25 0 5 ∷ row 26 0 5 ∷ row 39 0 5 ∷ row 46 0 5 ∷ row 38 0 5 ∷ row 3 4294967296 5 ∷ row 17 0 5 ∷ row 4 1 5 ∷ row 39 0 5 ∷ row 3 12 5 ∷ row 40 0 5 ∷ row 3 11 5 ∷ row 34 0 5 ∷ row 3 4294967297 5 ∷ row 35 0 5 ∷ row 37 0 5 ∷ row 37 0 5 ∷ row 8 0 5 ∷ []
 
+-- an own array whose `]` stands on a later line: the new semicolon has the line of the last identifier, the old one keeps its own
+abbrev pub own_bracket_below : Program
+own_bracket_below = MkProgram [] (MkBlock 1
+    (DeclareOwnArrays 1 (record { type = IntegerType; line = 1 }) 1
+        (MkFixed (MkNames (at 8 1) []) 1 (MkFixedPair (Unsigned 1 1) 1 (Unsigned 2 2)) NoFurther 2) [])
+    2 NoDeclarations (OneUnconditional (MkUnconditional [] Dummy)) NoStatements 2) 2
+
+abbrev pub own_bracket_below_symbols : List Symbol
+own_bracket_below_symbols = row 36 0 1 ∷ row 47 0 1 ∷ row 49 0 1 ∷ row 3 4294967296 1 ∷ row 34 0 1 ∷ row 4 1 1 ∷ row 29 0 1 ∷ row 4 2 2 ∷
+    row 35 0 2 ∷ row 30 0 1 ∷ row 36 0 1 ∷ row 55 0 1 ∷ row 47 0 1 ∷ row 49 0 1 ∷ row 3 8 1 ∷ row 34 0 1 ∷ row 4 1 1 ∷ row 29 0 1 ∷ row 4 2 2 ∷
+    row 35 0 2 ∷ row 30 0 2 ∷ row 37 0 2 ∷ row 37 0 2 ∷ row 8 0 2 ∷ []
+
 pub record AreHoisted : Type 0 where
   pub no_own_hoisted : spell_program (hoist no_own) ≡ no_own_symbols
   pub one_own_hoisted : spell_program (hoist one_own) ≡ one_own_symbols
@@ -55,3 +67,4 @@ pub record AreHoisted : Type 0 where
   pub own_hidden_hoisted : spell_program (hoist own_hidden) ≡ own_hidden_symbols
   pub own_inner_hoisted : spell_program (hoist own_inner) ≡ own_inner_symbols
   pub own_places_hoisted : spell_program (hoist own_places) ≡ own_places_symbols
+  pub own_bracket_below_hoisted : spell_program (hoist own_bracket_below) ≡ own_bracket_below_symbols

@@ -11,13 +11,13 @@ pub mod StructureExamples
 pub mod Declaring
 pub mod OwnCount
 pub mod Rename
+pub mod Lines
 pub mod Hoist
 pub mod HoistExamples
 pub mod Described
 pub mod Need
 pub mod Room
 pub mod RoomExamples
-pub mod Lines
 pub mod Entries
 pub mod Places
 pub mod Written

@@ -1,6 +1,6 @@
 -- How the parts of expressions stand in the texts 3 to 6. The four texts differ in how used identifiers are written and, for the
 -- last, in the order of operators and their operands.
-use Rattle.std.specs.Prelude.{ℕ, suc, ◌+◌, ◌-◌, ◌*◌, ◌^◌, ◌&&◌, zero, Bool, true, false, nat_lt, List, [], ◌∷◌, Option, None, Some, if◌then◌else◌}
+use Rattle.std.specs.Prelude.{ℕ, suc, ◌+◌, ◌-◌, ◌*◌, ◌^◌, ◌&&◌, min, zero, Bool, true, false, nat_lt, List, [], ◌∷◌, Option, None, Some, if◌then◌else◌}
 use Rattle.gier_symbol.specs.declared.symbol.Symbol.{Symbol}
 use Rattle.gier_symbol.specs.declared.tag.Tag.{Tag}
 use Rattle.gier_symbol.specs.declared.tag.Tag.TheVariants.{Identifier, Number, StringBegin, StringEnd, Power, Not, And, Or, Impl, Equiv, Comma, LeftParenthesis, RightParenthesis, LeftBracket, RightBracket, If, Then, Else, LeadingPlus, LeadingMinus, OpenMark, ShutMark, Used, Place, Count, Operation, Subscripted as SubscriptedTag, Called}
@@ -57,8 +57,16 @@ count_behind IntegerProcedure count line rest = sym Count count line ∷ rest
 count_behind BooleanProcedure count line rest = sym Count count line ∷ rest
 count_behind kind count line rest = rest
 
+-- the greatest address that a text tells; only a program that is wrong for its number of pairs has a greater one
+abbrev pub greatest_address : ℕ
+greatest_address = 2 ^ 24 - 1
+
+-- level and address as one number
+abbrev pub place_number : Placed → ℕ
+place_number at = at.level * 2 ^ 24 + min at.address greatest_address
+
 abbrev pub described_use : Placed → (line : ℕ) → List Symbol → List Symbol
-described_use at line rest = sym Used (kind_number at.what.kind) line ∷ sym Place (at.level * 2 ^ 24 + at.address) line ∷ count_behind at.what.kind at.what.count line rest
+described_use at line rest = sym Used (kind_number at.what.kind) line ∷ sym Place (place_number at) line ∷ count_behind at.what.kind at.what.count line rest
 
 abbrev pub used_in : Stage → List Name → Placed → Name → List Symbol → List Symbol
 used_in Marked owns at x rest = ident x ∷ rest
