@@ -1,5 +1,4 @@
--- The order table: the number, the name and the fields of each order. What an order does is told where the operations
--- stand, in src/operation.
+-- The order table: the number, the name and the fields of each order. What an order does stands in Flat/Rows.
 use Rattle.std.specs.Prelude.{ℕ, zero, suc, List, [], ◌∷◌, Option, None, codes}
 use Rattle.std.specs.List.{slice_get}
 use Rattle.gier_order.specs.declared.operation.Operation.{Operation}
