@@ -1,8 +1,7 @@
-"""Need and room: the words that an activation takes, and its working places."""
-
-from scope import PROC_FORMALS, PROCEDURES, SWITCH, SWITCH_FORMAL, VALUE_FORMALS, declared_in
-from tree import (ArrayDecl, Assign, Binary, Block, Call, CallStatement, Compound,
-                  Conditional, For, Goto, If, Index, Paren, Unary)
+"""How many words of working store each expression, statement and activation needs."""
+from model.scope import PROC_FORMALS, PROCEDURES, SWITCH, SWITCH_FORMAL, VALUE_FORMALS, declared_in
+from model.tree import (ArrayDecl, Assign, Binary, Call, CallStatement, Compound, Conditional, For, Goto, If, Index,
+                        Paren, Unary)
 
 
 def need(e):

@@ -1,27 +1,23 @@
-"""Cases worked by hand.
+"""Programs and objects with answers that were worked out by hand from the rules of the language and of the machine."""
+from model import orders as o
+from model.answer import ERRORS, answer
+from model.flat import Flat
 
-python3 tests/test_hand.py"""
+# Where it is the answer, the program only has to be without errors.
+NO_ERRORS = "*"
 
-import os
-import sys
-
-HERE = os.path.dirname(os.path.abspath(__file__))
-sys.path.insert(0, os.path.dirname(HERE))
-
-import gier                                                     # noqa: E402
-import orders as o                                              # noqa: E402
-from flat import Flat                                           # noqa: E402
-
+# A procedure with a formal by value and one by name.
 P = "_procedure p(a, b); _value a; _integer a, b; ;"
 
 
 def errs(*pairs):
+    """The lines that are printed for (line, fault) of each."""
     return "".join("line %d %s\n" % pair for pair in pairs)
 
 
 # (program, expected bytes)
 CASES = [
-    # list 1
+    # characters, words and strings
     ("_begin {a}b} _end", errs((1, "character"))),
     ("_begin _comment x; _comment y\n; _comment z;\n? _end", errs((3, "character"))),
     ("_begin outcr _comment x; _end", errs((1, "word"))),
@@ -37,10 +33,10 @@ CASES = [
     ("!'BEGIN' 'begin' 'END'", errs((1, "word"), (1, "word"))),
     ("!'BEGIN'!'END'", errs((1, "character"))),
     ("_begin ! _end", errs((1, "character"))),
-    # list 2
+    # numbers
     ("_begin outinteger(549755813888);\n outinteger(0000549755813888);outinteger(000549755813887) _end",
      errs((1, "number"), (2, "number"))),
-    # list 3
+    # structure
     ("_begin outcr _end outcr", "\n"),
     ("_begin outcr _end\n; outcr", errs((2, "structure"))),
     ("_begin _if _true _then\n_if _true _then outcr _end", errs((2, "structure"))),
@@ -57,7 +53,7 @@ CASES = [
     ("_begin _own _integer _array a[" + "1:2," * 29 + "1:2]; _end", "*"),
     ("_begin _own _integer _array a[" + "1:2," * 29 + "1:2\n,1:2]; _end", errs((2, "structure"))),
     ("_begin _own _integer _array a[-1:+2,\n-(1):2]; _end", errs((2, "structure"))),
-    # list 4
+    # scopes
     ("_begin _integer a; a:\n _begin _integer a; a:=1 _end _end", errs((1, "declared twice"))),
     ("_begin _procedure p(a, b, a); _value c, a, a; _integer a, a, d; ;\n;_end",
      errs((1, "not specified"), (1, "declared twice"), (1, "not formal"), (1, "specified twice"),
@@ -71,7 +67,7 @@ CASES = [
     ("_begin _procedure p(L);_integer L; L: _begin _end; _end", errs((1, "declared twice"))),
     ("L: _begin _integer L; L:=3; outinteger(L) _end", "3"),
     ("L: _begin L: _end", errs((1, "declared twice"))),
-    # list 5
+    # types
     ("_begin _integer _array a[" + "1:1," * 30 + "1:1]; _end", errs((1, "list too long"))),
     ("_begin _integer _array a[1:1];\na[" + "1," * 30 + "1]:=1 _end",
      errs((2, "subscripts"), (2, "list too long"))),
@@ -110,7 +106,7 @@ CASES = [
     ("_begin _procedure q(f); _integer _procedure f; ; _integer _procedure g; g:=1; _procedure h; ;\nq(g); q(h); q(ininteger) _end",
      errs((2, "parameter"), (2, "parameter"))),
     ("_begin _procedure q(f); _integer f; outinteger(f); _integer _procedure g; g:=4; q(g); q(ininteger) _end#5", "45"),
-    # run
+    # runs
     ("_begin outinteger(7 _div (-2)); outinteger((-7) _div (-2)); outinteger(2^38); outinteger((-2)^39) _end",
      "-3" + "3" + str(2 ** 38) + str(-2 ** 39)),
     ("_begin outinteger(2^39) _end", "\n*** alarm spill\n"),
@@ -141,6 +137,7 @@ CASES = [
 
 
 def spoilt_cases():
+    """(words, the place and the word by which they are spoilt, or None)."""
     c = o.code
     start = c(o.START, 1, 5)
     return [
@@ -167,34 +164,23 @@ def spoilt_cases():
     ]
 
 
-def main():
-    bad = 0
-    for text, want in CASES:
-        _, out, info = gier.answer(["run"], text.encode())
-        if want == "*":
-            ok = info["status"] != 1
-        else:
-            ok = out == want.encode()
-        if not ok:
-            bad += 1
-            print("MISMATCH", repr(text[:200]), "want", want, "got", out)
-    deep = ("_begin _integer _procedure d(n); _value n; _integer n; "
-            "d := _if n = 0 _then 0 _else d(n-1) + 1; outinteger(d(1000)) _end").encode()
-    _, out, _ = gier.answer(["run", "stack=1500", "mortem=yes"], deep)
-    want = (b"\n*** alarm stack\n\n*** mortem line 1\n"
-            + b"\n*** procedure line 1 words 11\n" * 64 + b"\n*** and 73 more\n")
-    if out != want:
-        bad += 1
-        print("MISMATCH and K more", out[-200:])
-    for words, want in spoilt_cases():
-        run = Flat(words, stack=64).run()
-        seen = run.spoilt if run.ending == "spoilt" else None
-        if seen != want:
-            bad += 1
-            print("MISMATCH", words, want, run.ending, run.spoilt)
-    print("hand cases", len(CASES) + len(spoilt_cases()), "failed", bad)
-    return bad
+def wrong_program(text, wanted):
+    """Lines that tell how the answer to a program differs."""
+    found = answer(["run"], text.encode())
+    right = found.status != ERRORS if wanted == NO_ERRORS else found.out == wanted.encode()
+    return [] if right else [f"  wanted {wanted!r}", f"  got    {found.out!r}"]
 
 
-if __name__ == "__main__":
-    sys.exit(main())
+def wrong_object(words, wanted):
+    """Lines that tell how the run of an object differs: `wanted` is the place and the word by which it is spoilt, or None."""
+    run = Flat(words, stack=64).run()
+    seen = run.spoilt if run.ending == "spoilt" else None
+    return [] if seen == wanted else [f"  wanted {wanted}", f"  got    {run.ending} {run.spoilt}"]
+
+
+def checks():
+    """(name, lines that tell what is wrong) of each."""
+    for text, wanted in CASES:
+        yield "by hand: " + text, wrong_program(text, wanted)
+    for words, wanted in spoilt_cases():
+        yield f"by hand: {words}", wrong_object(words, wanted)
