@@ -14,7 +14,7 @@ use crate::printing::put_named;
 use crate::status::{Status, of_printer};
 use gier_drum::Drum;
 use gier_frames::{Activation, Frames, Shape};
-use gier_front::{first_track, put_both};
+use gier_front::first_track;
 use gier_io::Sink;
 use gier_mortem::{LineStop, Lines};
 use gier_order::Object;
