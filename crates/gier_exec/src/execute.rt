@@ -17,7 +17,7 @@ ghost use Rattle.gier_word.specs.Cause.{HasRisen};
 ghost use Rattle.gier_library.specs.DataView.{source_of, has_ended, stand_of};
 ghost use Rattle.gier_order.specs.Codes.{IsOrder};
 ghost use Rattle.gier_exec.specs.Registers.{Keeps, Goes};
-ghost use Rattle.gier_exec.specs.Reading.{CanRead, Reads, seen};
+ghost use Rattle.gier_exec.specs.Reading.{CanRead, Reads, SamePager, seen_by};
 ghost use Rattle.gier_exec.specs.declared.stop.Miss.TheVariants.{Drum as DrumFailed, Stop as Stopped};
 ghost use Rattle.gier_exec.specs.declared.stop.Quit.TheVariants.{Miss as Missed, Read, Write};
 ghost use Rattle.gier_exec.specs.declared.stop.Stop.TheVariants.{Odd};
@@ -29,16 +29,15 @@ use crate::evaluations::{choose, evaluate};
 use crate::jumps::{go, jump, jump_if_false, turn};
 use crate::kinds::{compare, look_at_kind};
 use crate::library::library;
+use crate::pager::Pager;
 use crate::reading::fetch;
 use crate::stop::{Miss, ODD, Quit, Stop};
 use crate::values::plain;
-use gier_best::Trace;
 use gier_drum::Drum;
 use gier_frames::Frames;
 use gier_io::{Sink, Source};
 use gier_library::Data;
-use gier_order::{Object, Operation, Order, Recent};
-use gier_places::Places;
+use gier_order::{Object, Operation, Order};
 
 /// Carries out an order, and gives the address of the next one.
 #[inline(always)]
@@ -46,10 +45,7 @@ pub(crate) fn execute<D: Drum, S: Source, K: Sink>(
     m: &mut Machine,
     frames: &mut Frames,
     object: &Object,
-    drum: &mut D,
-    places: &mut Places,
-    recent: &mut Recent,
-    trace: &mut Trace,
+    pager: &mut Pager<D>,
     input: &mut Data<S>,
     out: &mut K,
     order: Order,
@@ -57,11 +53,11 @@ pub(crate) fn execute<D: Drum, S: Source, K: Sink>(
     requires order { IsOrder order }
     requires place { m.old.place < object.now.words }
     requires can { CanRead (2 * object.now.words + 1) object.now
-        (seen D.room D.tracks D.journal D.faults drum.old places.old recent.old trace.old) }
-    ensures row { (tracks : List (List ℕ)) → D.tracks drum.old ≡ Some tracks → Agrees (Some tracks) places.old.held
+        (seen_by D.room D.tracks D.journal D.faults pager.old) }
+    ensures row { (tracks : List (List ℕ)) → D.tracks pager.old.drum.now ≡ Some tracks → Agrees (Some tracks) pager.old.places.now.held
         → (read put taken : List ℕ) × Refers object.now read
-        (seen D.room D.tracks D.journal D.faults drum.old places.old recent.old trace.old)
-        (seen D.room D.tracks D.journal D.faults drum.new places.new recent.new trace.new)
+        (seen_by D.room D.tracks D.journal D.faults pager.old)
+        (seen_by D.room D.tracks D.journal D.faults pager.new)
         × Puts (K.holds out.old) put (K.holds out.new) × Takes (stand_of S.left input.old) taken (stand_of S.left input.new)
         × ((rest : List ℕ) → IsRest (has_ended input.new) rest
         → Obeys (does (code_in tracks object.now) (length frames.old.words) (regs_of m.old frames.old (taken ++ rest)) order
@@ -70,15 +66,16 @@ pub(crate) fn execute<D: Drum, S: Source, K: Sink>(
     ensures keeps { Keeps m.old m.new }
     ensures goes { IfOk result (λ next. Goes object.now.words m.old next m.new) }
     ensures size { length frames.new.words ≡ length frames.old.words }
+    ensures same_references { SamePager pager.old pager.new }
     ensures reads { Reads (2 * object.now.words + 1) object.now
-        (seen D.room D.tracks D.journal D.faults drum.old places.old recent.old trace.old)
-        (seen D.room D.tracks D.journal D.faults drum.new places.new recent.new trace.new) }
+        (seen_by D.room D.tracks D.journal D.faults pager.old)
+        (seen_by D.room D.tracks D.journal D.faults pager.new) }
     ensures same_reference { input.new.source.ghost_name ≡ input.old.source.ghost_name }
     ensures source_later { S.faults (source_of input.old) ≤ S.faults (source_of input.new) }
     ensures source_failed { result ≡ Err Read → HasRisen (S.faults (source_of input.old)) (S.faults (source_of input.new)) }
     ensures sink_later { K.faults out.old ≤ K.faults out.new }
     ensures sink_failed { result ≡ Err Write → HasRisen (K.faults out.old) (K.faults out.new) }
-    ensures failed { result ≡ Err (Missed DrumFailed) → HasRisen (D.faults drum.old) (D.faults drum.new) }
+    ensures failed { result ≡ Err (Missed DrumFailed) → HasRisen (D.faults pager.old.drum.now) (D.faults pager.new.drum.now) }
     ensures spoilt { result ≡ Err (Missed (Stopped Odd)) → (m.new ≡ m.old)
         × ((frames.new ≡ frames.old) × ((out.new ≡ out.old) × (input.new ≡ input.old))) }
 {
@@ -89,10 +86,7 @@ pub(crate) fn execute<D: Drum, S: Source, K: Sink>(
                 m,
                 frames,
                 object,
-                drum,
-                places,
-                recent,
-                trace,
+                pager,
                 input,
                 out,
                 order.address,
@@ -102,7 +96,7 @@ pub(crate) fn execute<D: Drum, S: Source, K: Sink>(
     }
     if is_allowed(frames, operation) {
         return match dispatch(
-            m, frames, object, drum, places, recent, trace, operation, order,
+            m, frames, object, pager, operation, order,
         ) {
             Ok(next) => Ok(next),
             Err(miss) => Err(Quit::Miss(miss)),
@@ -133,21 +127,18 @@ fn procedure<D: Drum, S: Source, K: Sink>(
     m: &mut Machine,
     frames: &Frames,
     object: &Object,
-    drum: &mut D,
-    places: &mut Places,
-    recent: &mut Recent,
-    trace: &mut Trace,
+    pager: &mut Pager<D>,
     input: &mut Data<S>,
     out: &mut K,
     number: u32,
 ) -> Result<u32, Quit>
     requires place { m.old.place < object.now.words }
     requires can { CanRead (object.now.words + 1) object.now
-        (seen D.room D.tracks D.journal D.faults drum.old places.old recent.old trace.old) }
-    ensures row { (tracks : List (List ℕ)) → D.tracks drum.old ≡ Some tracks → Agrees (Some tracks) places.old.held
+        (seen_by D.room D.tracks D.journal D.faults pager.old) }
+    ensures row { (tracks : List (List ℕ)) → D.tracks pager.old.drum.now ≡ Some tracks → Agrees (Some tracks) pager.old.places.now.held
         → (read put taken : List ℕ) × Refers object.now read
-        (seen D.room D.tracks D.journal D.faults drum.old places.old recent.old trace.old)
-        (seen D.room D.tracks D.journal D.faults drum.new places.new recent.new trace.new)
+        (seen_by D.room D.tracks D.journal D.faults pager.old)
+        (seen_by D.room D.tracks D.journal D.faults pager.new)
         × Puts (K.holds out.old) put (K.holds out.new) × Takes (stand_of S.left input.old) taken (stand_of S.left input.new)
         × ((rest : List ℕ) (l : ℕ) → IsRest (has_ended input.new) rest
         → Obeys (needs frames.now.entered (effect (code_in tracks object.now) (length frames.now.words)
@@ -155,22 +146,23 @@ fn procedure<D: Drum, S: Source, K: Sink>(
         (regs_of m.new frames.now rest) read put taken result) }
     ensures keeps { Keeps m.old m.new }
     ensures goes { IfOk result (λ next. Goes object.now.words m.old next m.new) }
+    ensures same_references { SamePager pager.old pager.new }
     ensures reads { Reads (object.now.words + 1) object.now
-        (seen D.room D.tracks D.journal D.faults drum.old places.old recent.old trace.old)
-        (seen D.room D.tracks D.journal D.faults drum.new places.new recent.new trace.new) }
+        (seen_by D.room D.tracks D.journal D.faults pager.old)
+        (seen_by D.room D.tracks D.journal D.faults pager.new) }
     ensures same_reference { input.new.source.ghost_name ≡ input.old.source.ghost_name }
     ensures source_later { S.faults (source_of input.old) ≤ S.faults (source_of input.new) }
     ensures source_failed { result ≡ Err Read → HasRisen (S.faults (source_of input.old)) (S.faults (source_of input.new)) }
     ensures sink_later { K.faults out.old ≤ K.faults out.new }
     ensures sink_failed { result ≡ Err Write → HasRisen (K.faults out.old) (K.faults out.new) }
-    ensures failed { result ≡ Err (Missed DrumFailed) → HasRisen (D.faults drum.old) (D.faults drum.new) }
+    ensures failed { result ≡ Err (Missed DrumFailed) → HasRisen (D.faults pager.old.drum.now) (D.faults pager.new.drum.now) }
     ensures odd { result ≡ Err (Missed (Stopped Odd)) → (m.new ≡ m.old) × ((out.new ≡ out.old) × (input.new ≡ input.old)) }
 {
     if m.behind() >= u64::from(object.words) {
         return Err(Quit::Miss(ODD));
     }
     if is_entered(frames) {
-        return match library(m, object, drum, places, recent, trace, input, out, number) {
+        return match library(m, object, pager, input, out, number) {
             Ok(()) => Ok(m.place() + 1),
             Err(quit) => Err(quit),
         };
@@ -184,33 +176,31 @@ fn dispatch<D: Drum>(
     m: &mut Machine,
     frames: &mut Frames,
     object: &Object,
-    drum: &mut D,
-    places: &mut Places,
-    recent: &mut Recent,
-    trace: &mut Trace,
+    pager: &mut Pager<D>,
     operation: Operation,
     order: Order,
 ) -> Result<u32, Miss>
     requires order { IsOrder order }
     requires place { m.old.place < object.now.words }
     requires can { CanRead (2 * object.now.words + 1) object.now
-        (seen D.room D.tracks D.journal D.faults drum.old places.old recent.old trace.old) }
+        (seen_by D.room D.tracks D.journal D.faults pager.old) }
     requires other { operation ≢ Lib }
     requires kept { IsKept frames.old }
-    ensures row { (tracks : List (List ℕ)) (input : List ℕ) → D.tracks drum.old ≡ Some tracks → Agrees (Some tracks) places.old.held
+    ensures row { (tracks : List (List ℕ)) (input : List ℕ) → D.tracks pager.old.drum.now ≡ Some tracks → Agrees (Some tracks) pager.old.places.now.held
         → IsTrue (frames.old.entered || is_start operation)
         → (refs : List ℕ) × Refers object.now refs
-        (seen D.room D.tracks D.journal D.faults drum.old places.old recent.old trace.old)
-        (seen D.room D.tracks D.journal D.faults drum.new places.new recent.new trace.new)
+        (seen_by D.room D.tracks D.journal D.faults pager.old)
+        (seen_by D.room D.tracks D.journal D.faults pager.new)
         × Does (effect (code_in tracks object.now) (length frames.old.words) (regs_of m.old frames.old input) operation order.level
         order.address) refs (regs_of m.new frames.new input) result }
     ensures keeps { Keeps m.old m.new }
     ensures goes { IfOk result (λ next. Goes object.now.words m.old next m.new) }
     ensures size { length frames.new.words ≡ length frames.old.words }
+    ensures same_references { SamePager pager.old pager.new }
     ensures reads { Reads (2 * object.now.words + 1) object.now
-        (seen D.room D.tracks D.journal D.faults drum.old places.old recent.old trace.old)
-        (seen D.room D.tracks D.journal D.faults drum.new places.new recent.new trace.new) }
-    ensures failed { result ≡ Err DrumFailed → HasRisen (D.faults drum.old) (D.faults drum.new) }
+        (seen_by D.room D.tracks D.journal D.faults pager.old)
+        (seen_by D.room D.tracks D.journal D.faults pager.new) }
+    ensures failed { result ≡ Err DrumFailed → HasRisen (D.faults pager.old.drum.now) (D.faults pager.new.drum.now) }
     ensures odd { result ≡ Err (Stopped Odd) → (m.new ≡ m.old) × (frames.new ≡ frames.old) }
 {
     match operation {
@@ -223,22 +213,22 @@ fn dispatch<D: Drum>(
         | Operation::Give => move_on(m, frames, operation, order, object.words),
         Operation::Value | Operation::Place | Operation::NameL | Operation::Pass => {
             evaluate(
-                m, frames, object, drum, places, recent, trace, operation, order,
+                m, frames, object, pager, operation, order,
             )
         }
         Operation::Call | Operation::Formal | Operation::CallF => {
             call(
-                m, frames, object, drum, places, recent, trace, operation, order,
+                m, frames, object, pager, operation, order,
             )
         }
         Operation::Switch | Operation::SwForm => {
             choose(
-                m, frames, object, drum, places, recent, trace, operation, order,
+                m, frames, object, pager, operation, order,
             )
         }
-        Operation::Long => long(m, object, drum, places, recent, trace),
-        Operation::Agree => compare(m, frames, object, drum, places, recent, trace, order),
-        Operation::ByVal => look_at_kind(m, frames, object, drum, places, recent, trace, order),
+        Operation::Long => long(m, object, pager),
+        Operation::Agree => compare(m, frames, object, pager, order),
+        Operation::ByVal => look_at_kind(m, frames, object, pager, order),
         Operation::Stop => Err(Miss::Stop(Stop::Ended)),
         Operation::Proc | Operation::Thunk | Operation::Kinds => Err(ODD),
         _ => go_on(m, frames, operation, order, object.words),
@@ -331,28 +321,26 @@ fn go_on(
 fn long<D: Drum>(
     m: &mut Machine,
     object: &Object,
-    drum: &mut D,
-    places: &mut Places,
-    recent: &mut Recent,
-    trace: &mut Trace,
+    pager: &mut Pager<D>,
 ) -> Result<u32, Miss>
     requires place { m.old.place < object.now.words }
-    requires can { CanRead 1 object.now (seen D.room D.tracks D.journal D.faults drum.old places.old recent.old trace.old) }
-    ensures row { (tracks : List (List ℕ)) (input : List ℕ) (s : State) (l a : ℕ) → D.tracks drum.old ≡ Some tracks
-        → Agrees (Some tracks) places.old.held
+    requires can { CanRead 1 object.now (seen_by D.room D.tracks D.journal D.faults pager.old) }
+    ensures row { (tracks : List (List ℕ)) (input : List ℕ) (s : State) (l a : ℕ) → D.tracks pager.old.drum.now ≡ Some tracks
+        → Agrees (Some tracks) pager.old.places.now.held
         → (refs : List ℕ) × Refers object.now refs
-        (seen D.room D.tracks D.journal D.faults drum.old places.old recent.old trace.old)
-        (seen D.room D.tracks D.journal D.faults drum.new places.new recent.new trace.new)
+        (seen_by D.room D.tracks D.journal D.faults pager.old)
+        (seen_by D.room D.tracks D.journal D.faults pager.new)
         × Does (effect (code_in tracks object.now) (length s.words) (regs_of m.old s input) Long l a) refs (regs_of m.new s input)
         result }
     ensures keeps { Keeps m.old m.new }
     ensures goes { IfOk result (λ next. Goes object.now.words m.old next m.new) }
-    ensures reads { Reads 1 object.now (seen D.room D.tracks D.journal D.faults drum.old places.old recent.old trace.old)
-        (seen D.room D.tracks D.journal D.faults drum.new places.new recent.new trace.new) }
-    ensures failed { result ≡ Err DrumFailed → HasRisen (D.faults drum.old) (D.faults drum.new) }
+    ensures same_references { SamePager pager.old pager.new }
+    ensures reads { Reads 1 object.now (seen_by D.room D.tracks D.journal D.faults pager.old)
+        (seen_by D.room D.tracks D.journal D.faults pager.new) }
+    ensures failed { result ≡ Err DrumFailed → HasRisen (D.faults pager.old.drum.now) (D.faults pager.new.drum.now) }
     ensures odd { result ≡ Err (Stopped Odd) → m.new ≡ m.old }
 {
-    let word = match fetch(object, drum, places, recent, trace, m.behind()) {
+    let word = match fetch(object, pager, m.behind()) {
         Ok(word) => word,
         Err(miss) => return Err(miss),
     };

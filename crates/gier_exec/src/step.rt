@@ -20,6 +20,7 @@ ghost use Rattle.gier_exec.specs.declared.stop.Miss.TheVariants.{Drum as MissedD
 ghost use Rattle.gier_exec.specs.declared.stop.Quit.TheVariants.{Miss as Missed, Read as QuitRead, Write as QuitWrite};
 
 use crate::execute::execute;
+use crate::pager::Pager;
 use crate::reading::read_word;
 use crate::stop::{Miss, Quit, Stop};
 use crate::{Machine, Turn};
@@ -89,16 +90,20 @@ pub fn step_order<D: Drum, S: Source, K: Sink>(
     ensures sink_failed { result ≡ Write → HasRisen (K.faults out.old) (K.faults out.new) }
 {
     let place = m.place();
-    let word = match read_word(object, drum, places, recent, trace, place) {
+    let mut pager = Pager {
+        drum,
+        places,
+        recent,
+        trace,
+    };
+    let word = match read_word(object, &mut pager, place) {
         Ok(word) => word,
         Err(_) => return Turn::Drum,
     };
     let Some(order) = Order::decode(word) else {
         return spoilt(place, word);
     };
-    match execute(
-        m, frames, object, drum, places, recent, trace, input, out, order,
-    ) {
+    match execute(m, frames, object, &mut pager, input, out, order) {
         Ok(next) => {
             m.set_place(next);
             Turn::On

@@ -17,8 +17,8 @@ pub returns-in-Err-clause-row : goal.returns-in-Err-clause-row
 returns-in-Err-clause-row g c = λ tracks told agrees.
     let object = c.args.object.now in
     let so_far = c.loop-at.invariant.2 tracks told agrees in
-    let told_mid : g.D.Drum.tracks c.loop-at.drum ≡ Some tracks = c.loop-at.invariant.0.tracks ∙ told in
-    let agrees_mid : Agrees (Some tracks) c.loop-at.places.held = subst (λ t. Agrees t c.loop-at.places.held) told_mid (so_far.2.agrees (subst (λ t. Agrees t c.args.places.now.held) (sym told) agrees)) in
+    let told_mid : g.D.Drum.tracks c.loop-at.pager.drum.now ≡ Some tracks = c.loop-at.invariant.0.tracks ∙ told in
+    let agrees_mid : Agrees (Some tracks) c.loop-at.pager.places.now.held = subst (λ t. Agrees t c.loop-at.pager.places.now.held) told_mid (so_far.2.agrees (subst (λ t. Agrees t c.args.pager.now.places.now.held) (sym told) agrees)) in
     let one = c.in-Err.ensures.row tracks told_mid agrees_mid in
     let lt : c.loop-at.at < (c.args.length + 4) / 5 = omega (arith, c.div_ceil-at-end.ensures, c.loop-at-test.true) in (
       so_far.0 ++ one.0,
@@ -35,8 +35,8 @@ loop-at-preserved g c = (
   λ tracks told agrees.
       let object = c.args.object.now in
       let so_far = c.loop-at.invariant.2 tracks told agrees in
-      let told_mid : g.D.Drum.tracks c.loop-at.drum ≡ Some tracks = c.loop-at.invariant.0.tracks ∙ told in
-      let agrees_mid : Agrees (Some tracks) c.loop-at.places.held = subst (λ t. Agrees t c.loop-at.places.held) told_mid (so_far.2.agrees (subst (λ t. Agrees t c.args.places.now.held) (sym told) agrees)) in
+      let told_mid : g.D.Drum.tracks c.loop-at.pager.drum.now ≡ Some tracks = c.loop-at.invariant.0.tracks ∙ told in
+      let agrees_mid : Agrees (Some tracks) c.loop-at.pager.places.now.held = subst (λ t. Agrees t c.loop-at.pager.places.now.held) told_mid (so_far.2.agrees (subst (λ t. Agrees t c.args.pager.now.places.now.held) (sym told) agrees)) in
       let one = c.in-Ok.ensures.row tracks told_mid agrees_mid in (
         so_far.0 ++ one.0,
         so_far.1 ++ one.1,

@@ -56,8 +56,8 @@ returns-in-Ok-execute-clause-row g c = λ tracks told agrees.
     let object = c.args.object.now in
     let word : c.in-Ok.word ≡ word_in tracks object place = subst (λ p. c.in-Ok.word ≡ word_in tracks object p) c.place-place.ensures (c.in-Ok.ensures.word tracks told agrees) in
     let some : order_at c.in-Ok.word ≡ Some c.in-Some.order = sym c.decode.ensures.value ∙ c.in-Some.is in
-    let told_mid : g.D.Drum.tracks c.read_word.new.drum ≡ Some tracks = c.read_word.ensures.reads.tracks ∙ told in
-    let agrees_mid : Agrees (Some tracks) c.read_word.new.places.held = subst (λ t. Agrees t c.read_word.new.places.held) told_mid (c.in-Ok.ensures.refers.agrees (subst (λ t. Agrees t c.args.places.now.held) (sym told) agrees)) in
+    let told_mid : g.D.Drum.tracks c.read_word.new.pager.drum.now ≡ Some tracks = c.read_word.ensures.reads.tracks ∙ told in
+    let agrees_mid : Agrees (Some tracks) c.read_word.new.pager.places.now.held = subst (λ t. Agrees t c.read_word.new.pager.places.now.held) told_mid (c.in-Ok.ensures.refers.agrees (subst (λ t. Agrees t c.args.places.now.held) (sym told) agrees)) in
     let did = c.in-Ok-execute.ensures.row tracks told_mid agrees_mid in (
       place ∷ did.0,
       did.1,
@@ -76,8 +76,8 @@ returns-in-Err-execute-clause-row g c = λ tracks told agrees.
     let found = word_in tracks object place in
     let word : c.in-Ok.word ≡ found = subst (λ p. c.in-Ok.word ≡ word_in tracks object p) c.place-place.ensures (c.in-Ok.ensures.word tracks told agrees) in
     let some : order_at c.in-Ok.word ≡ Some c.in-Some.order = sym c.decode.ensures.value ∙ c.in-Some.is in
-    let told_mid : g.D.Drum.tracks c.read_word.new.drum ≡ Some tracks = c.read_word.ensures.reads.tracks ∙ told in
-    let agrees_mid : Agrees (Some tracks) c.read_word.new.places.held = subst (λ t. Agrees t c.read_word.new.places.held) told_mid (c.in-Ok.ensures.refers.agrees (subst (λ t. Agrees t c.args.places.now.held) (sym told) agrees)) in
+    let told_mid : g.D.Drum.tracks c.read_word.new.pager.drum.now ≡ Some tracks = c.read_word.ensures.reads.tracks ∙ told in
+    let agrees_mid : Agrees (Some tracks) c.read_word.new.pager.places.now.held = subst (λ t. Agrees t c.read_word.new.pager.places.now.held) told_mid (c.in-Ok.ensures.refers.agrees (subst (λ t. Agrees t c.args.places.now.held) (sym told) agrees)) in
     let did = c.in-Err-execute.ensures.row tracks told_mid agrees_mid in (
       place ∷ did.0,
       did.1,
