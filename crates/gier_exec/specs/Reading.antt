@@ -21,14 +21,24 @@ pub record Stand : Type 0 where
   pub recent : Counts
   pub trace : Traced
 
-abbrev pub seen : {D : Type 0} → (D → ℕ) → (D → Option (List (List ℕ))) → (D → Option (List Entry)) → (D → ℕ) → D → Contents → Counts → Traced → Stand
-seen room tracks journal faults drum places recent trace =
-    record { room = room drum; tracks = tracks drum; journal = journal drum; faults = faults drum; places = places; recent = recent; trace = trace }
+abbrev pub view_of : {D : Type 0} → (D → ℕ) → (D → Option (List (List ℕ))) → (D → Option (List Entry)) → (D → ℕ) → D → Contents
+    → Counts → Traced → Stand
+view_of room tracks journal faults drum places recent trace =
+    record {
+      room = room drum;
+      tracks = tracks drum;
+      journal = journal drum;
+      faults = faults drum;
+      places = places;
+      recent = recent;
+      trace = trace;
+    }
 
 -- the same of a pager
-abbrev pub seen_by : {D : Type 0} → (D → ℕ) → (D → Option (List (List ℕ))) → (D → Option (List Entry)) → (D → ℕ) → Pager D → Stand
-seen_by room tracks journal faults pager =
-    seen room tracks journal faults pager.drum.now pager.places.now pager.recent.now pager.trace.now
+abbrev pub pager_view : {D : Type 0} → (D → ℕ) → (D → Option (List (List ℕ))) → (D → Option (List Entry)) → (D → ℕ) → Pager D
+    → Stand
+pager_view room tracks journal faults pager =
+    view_of room tracks journal faults pager.drum.now pager.places.now pager.recent.now pager.trace.now
 
 -- a pager goes on with what it borrowed
 pub record SamePager {D : Type 0} (old new : Pager D) : Type 0 where

@@ -3,17 +3,18 @@ ghost use Rattle.std.specs.Prelude.{◌≡◌, ◌+◌, ◌-◌, ◌*◌, ◌/�
 ghost use Rattle.gier_agree.specs.Packed.{kind_in};
 ghost use Rattle.gier_places.specs.Contents.{Agrees};
 ghost use Rattle.gier_order.specs.Flat.Row.{Regs, Row, needs, reads as reads_row};
-ghost use Rattle.gier_order.specs.Flat.Rows.{effect, cell_word, goes as goes_row, is_address, reads_order, agrees as agrees_row, agrees_with};
+ghost use Rattle.gier_order.specs.Flat.Rows.{effect, cell_word, goes as goes_row, is_address, reads_order, agrees as agrees_row};
+ghost use Rattle.gier_order.specs.Flat.Rows.{agrees_with};
 ghost use Rattle.gier_order.specs.Flat.Kinds.{groups_for, formals_handed, is_packed, is_field, all_fit};
 ghost use Rattle.gier_order.specs.declared.operation.Operation.TheVariants.{Agree, ByVal};
 ghost use Rattle.gier_exec.specs.Rows.{regs_of, code_in};
-ghost use Rattle.gier_exec.specs.Following.{Gets};
-ghost use Rattle.gier_exec.specs.Searching.{Searches, Acts};
-ghost use Rattle.gier_exec.specs.Agreeing.{matches};
+ghost use Rattle.gier_exec.specs.Following.{RefinesValue};
+ghost use Rattle.gier_exec.specs.Searching.{RefinesSearch, RefinesReading};
+ghost use Rattle.gier_exec.specs.Agreeing.{match_row};
 ghost use Rattle.gier_word.specs.Cause.{HasRisen};
 ghost use Rattle.gier_order.specs.Codes.{IsOrder};
-ghost use Rattle.gier_exec.specs.Registers.{Registers, Keeps, Goes};
-ghost use Rattle.gier_exec.specs.Reading.{CanRead, Reads, SamePager, seen_by};
+ghost use Rattle.gier_exec.specs.Registers.{Registers, PreservesPlace, Progresses};
+ghost use Rattle.gier_exec.specs.Reading.{CanRead, Reads, SamePager, pager_view};
 ghost use Rattle.gier_exec.specs.declared.stop.Miss.TheVariants.{Drum as DrumFailed, Stop as Stopped};
 ghost use Rattle.gier_exec.specs.declared.stop.Stop.TheVariants.{Odd};
 
@@ -56,18 +57,19 @@ pub(crate) fn compare<D: Drum>(
     requires order { IsOrder order }
     requires place { m.now.place < object.now.words }
     requires can { CanRead (2 * object.now.words) object.now
-        (seen_by D.room D.tracks D.journal D.faults pager.old) }
-    ensures row { (tracks : List (List ℕ)) (input : List ℕ) → D.tracks pager.old.drum.now ≡ Some tracks → Agrees (Some tracks) pager.old.places.now.held
+        (pager_view D.room D.tracks D.journal D.faults pager.old) }
+    ensures row { (tracks : List (List ℕ)) (input : List ℕ) → D.tracks pager.old.drum.now ≡ Some tracks
+        → Agrees (Some tracks) pager.old.places.now.held
         → frames.now.entered ≡ true
-        → Acts object.now (seen_by D.room D.tracks D.journal D.faults pager.old)
-        (seen_by D.room D.tracks D.journal D.faults pager.new)
+        → RefinesReading object.now (pager_view D.room D.tracks D.journal D.faults pager.old)
+        (pager_view D.room D.tracks D.journal D.faults pager.new)
         (effect (code_in tracks object.now) (length frames.now.words) (regs_of m.now frames.now input) Agree order.level
         order.address) (regs_of m.now frames.now input) result }
-    ensures goes { IfOk result (λ next. Goes object.now.words m.now next m.now) }
+    ensures goes { IfOk result (λ next. Progresses object.now.words m.now next m.now) }
     ensures same_references { SamePager pager.old pager.new }
     ensures reads { Reads (2 * object.now.words) object.now
-        (seen_by D.room D.tracks D.journal D.faults pager.old)
-        (seen_by D.room D.tracks D.journal D.faults pager.new) }
+        (pager_view D.room D.tracks D.journal D.faults pager.old)
+        (pager_view D.room D.tracks D.journal D.faults pager.new) }
     ensures failed { result ≡ Err DrumFailed → HasRisen (D.faults pager.old.drum.now) (D.faults pager.new.drum.now) }
 {
     let list = m.behind();
@@ -88,13 +90,7 @@ pub(crate) fn compare<D: Drum>(
         Ok(next) => next,
         Err(stop) => return Err(Miss::Stop(stop)),
     };
-    match compare_groups(
-        object,
-        pager,
-        address + 1,
-        list + 1,
-        count,
-    ) {
+    match compare_groups(object, pager, address + 1, list + 1, count) {
         Ok(()) => Ok(next),
         Err(miss) => Err(miss),
     }
@@ -104,7 +100,7 @@ pub(crate) fn compare<D: Drum>(
 fn formal_address(frames: &Frames, order: Order) -> Result<u64, Stop>
     requires { IsOrder order }
     ensures row { (code input : List ℕ) (m : Registers) (go : ℕ → Row) → frames.now.entered ≡ true
-        → Gets (cell_word code (length frames.now.words) (regs_of m frames.now input) order.level order.address
+        → RefinesValue (cell_word code (length frames.now.words) (regs_of m frames.now input) order.level order.address
         (λ place word. go word)) go result }
     ensures small { IfOk result (λ address. address < 2 ^ 40) }
 {
@@ -121,11 +117,11 @@ fn match_count<D: Drum>(
     address: u64,
     count: u64,
 ) -> Result<(), Miss>
-    requires can { CanRead 1 object.now (seen_by D.room D.tracks D.journal D.faults pager.old) }
+    requires can { CanRead 1 object.now (pager_view D.room D.tracks D.journal D.faults pager.old) }
     ensures row { (tracks : List (List ℕ)) (size : ℕ) (regs : Regs) (list : ℕ) → D.tracks pager.old.drum.now ≡ Some tracks
         → Agrees (Some tracks) pager.old.places.now.held
-        → Searches object.now (seen_by D.room D.tracks D.journal D.faults pager.old)
-        (seen_by D.room D.tracks D.journal D.faults pager.new)
+        → RefinesSearch object.now (pager_view D.room D.tracks D.journal D.faults pager.old)
+        (pager_view D.room D.tracks D.journal D.faults pager.new)
         (reads_order (code_in tracks object.now) size regs address
         (λ head. agrees_with (code_in tracks object.now) size regs address list count (formals_handed head))) regs
         (λ done. needs (is_address (code_in tracks object.now) size regs (list + groups_for count))
@@ -133,8 +129,8 @@ fn match_count<D: Drum>(
     ensures few { OnOk result (count ≤ 80) }
     ensures some { OnOk result (1 ≤ count) }
     ensures same_references { SamePager pager.old pager.new }
-    ensures reads { Reads 1 object.now (seen_by D.room D.tracks D.journal D.faults pager.old)
-        (seen_by D.room D.tracks D.journal D.faults pager.new) }
+    ensures reads { Reads 1 object.now (pager_view D.room D.tracks D.journal D.faults pager.old)
+        (pager_view D.room D.tracks D.journal D.faults pager.new) }
     ensures failed { result ≡ Err DrumFailed → HasRisen (D.faults pager.old.drum.now) (D.faults pager.new.drum.now) }
 {
     let head = match fetch_order(object, pager, address) {
@@ -166,17 +162,17 @@ fn compare_groups<D: Drum>(
     requires formals { formals ≤ 2 ^ 40 }
     requires actuals { actuals ≤ 2 ^ 40 }
     requires can { CanRead (2 * ((count + 9) / 10)) object.now
-        (seen_by D.room D.tracks D.journal D.faults pager.old) }
+        (pager_view D.room D.tracks D.journal D.faults pager.old) }
     ensures row { (tracks : List (List ℕ)) (size : ℕ) (regs : Regs) → D.tracks pager.old.drum.now ≡ Some tracks
         → Agrees (Some tracks) pager.old.places.now.held
-        → Searches object.now (seen_by D.room D.tracks D.journal D.faults pager.old)
-        (seen_by D.room D.tracks D.journal D.faults pager.new)
+        → RefinesSearch object.now (pager_view D.room D.tracks D.journal D.faults pager.old)
+        (pager_view D.room D.tracks D.journal D.faults pager.new)
         (agrees_row (code_in tracks object.now) size regs (groups_for count) formals actuals count) regs
         (λ done. goes_row (code_in tracks object.now) size regs (actuals + groups_for count) regs) result }
     ensures same_references { SamePager pager.old pager.new }
     ensures reads { Reads (2 * ((count + 9) / 10)) object.now
-        (seen_by D.room D.tracks D.journal D.faults pager.old)
-        (seen_by D.room D.tracks D.journal D.faults pager.new) }
+        (pager_view D.room D.tracks D.journal D.faults pager.old)
+        (pager_view D.room D.tracks D.journal D.faults pager.new) }
     ensures failed { result ≡ Err DrumFailed → HasRisen (D.faults pager.old.drum.now) (D.faults pager.new.drum.now) }
 {
     for group in 0..count.div_ceil(GROUP) {
@@ -202,34 +198,22 @@ fn compare_group<D: Drum>(
     actuals: u64,
     left: u64,
 ) -> Result<(), Miss>
-    requires can { CanRead 2 object.now (seen_by D.room D.tracks D.journal D.faults pager.old) }
+    requires can { CanRead 2 object.now (pager_view D.room D.tracks D.journal D.faults pager.old) }
     ensures row { (tracks : List (List ℕ)) (regs : Regs) (next : Row) → D.tracks pager.old.drum.now ≡ Some tracks
         → Agrees (Some tracks) pager.old.places.now.held
-        → Searches object.now (seen_by D.room D.tracks D.journal D.faults pager.old)
-        (seen_by D.room D.tracks D.journal D.faults pager.new)
-        (matches (code_in tracks object.now) regs formals actuals left next) regs (λ done. next) result }
+        → RefinesSearch object.now (pager_view D.room D.tracks D.journal D.faults pager.old)
+        (pager_view D.room D.tracks D.journal D.faults pager.new)
+        (match_row (code_in tracks object.now) regs formals actuals left next) regs (λ done. next) result }
     ensures same_references { SamePager pager.old pager.new }
-    ensures reads { Reads 2 object.now (seen_by D.room D.tracks D.journal D.faults pager.old)
-        (seen_by D.room D.tracks D.journal D.faults pager.new) }
+    ensures reads { Reads 2 object.now (pager_view D.room D.tracks D.journal D.faults pager.old)
+        (pager_view D.room D.tracks D.journal D.faults pager.new) }
     ensures failed { result ≡ Err DrumFailed → HasRisen (D.faults pager.old.drum.now) (D.faults pager.new.drum.now) }
 {
-    let formals = match fetch_packed(
-        object,
-        pager,
-        formals,
-        left,
-        FIRST_FORMAL,
-    ) {
+    let formals = match fetch_packed(object, pager, formals, left, FIRST_FORMAL) {
         Ok(word) => word,
         Err(miss) => return Err(miss),
     };
-    let actuals = match fetch_packed(
-        object,
-        pager,
-        actuals,
-        left,
-        FIRST_ACTUAL,
-    ) {
+    let actuals = match fetch_packed(object, pager, actuals, left, FIRST_ACTUAL) {
         Ok(word) => word,
         Err(miss) => return Err(miss),
     };
@@ -249,15 +233,15 @@ fn fetch_packed<D: Drum>(
     left: u64,
     first: u8,
 ) -> Result<u64, Miss>
-    requires can { CanRead 1 object.now (seen_by D.room D.tracks D.journal D.faults pager.old) }
+    requires can { CanRead 1 object.now (pager_view D.room D.tracks D.journal D.faults pager.old) }
     ensures row { (tracks : List (List ℕ)) (regs : Regs) (go : ℕ → Row) → D.tracks pager.old.drum.now ≡ Some tracks
         → Agrees (Some tracks) pager.old.places.now.held
-        → Searches object.now (seen_by D.room D.tracks D.journal D.faults pager.old)
-        (seen_by D.room D.tracks D.journal D.faults pager.new)
+        → RefinesSearch object.now (pager_view D.room D.tracks D.journal D.faults pager.old)
+        (pager_view D.room D.tracks D.journal D.faults pager.new)
         (reads_row (code_in tracks object.now) address (λ word. needs (is_packed first left word) (go word))) regs go result }
     ensures same_references { SamePager pager.old pager.new }
-    ensures reads { Reads 1 object.now (seen_by D.room D.tracks D.journal D.faults pager.old)
-        (seen_by D.room D.tracks D.journal D.faults pager.new) }
+    ensures reads { Reads 1 object.now (pager_view D.room D.tracks D.journal D.faults pager.old)
+        (pager_view D.room D.tracks D.journal D.faults pager.new) }
     ensures failed { result ≡ Err DrumFailed → HasRisen (D.faults pager.old.drum.now) (D.faults pager.new.drum.now) }
 {
     let word = match fetch(object, pager, address) {
@@ -313,18 +297,19 @@ pub(crate) fn look_at_kind<D: Drum>(
 ) -> Result<u32, Miss>
     requires order { IsOrder order }
     requires place { m.old.place < object.now.words }
-    requires can { CanRead 2 object.now (seen_by D.room D.tracks D.journal D.faults pager.old) }
-    ensures row { (tracks : List (List ℕ)) (input : List ℕ) → D.tracks pager.old.drum.now ≡ Some tracks → Agrees (Some tracks) pager.old.places.now.held
+    requires can { CanRead 2 object.now (pager_view D.room D.tracks D.journal D.faults pager.old) }
+    ensures row { (tracks : List (List ℕ)) (input : List ℕ) → D.tracks pager.old.drum.now ≡ Some tracks
+        → Agrees (Some tracks) pager.old.places.now.held
         → frames.now.entered ≡ true
-        → Acts object.now (seen_by D.room D.tracks D.journal D.faults pager.old)
-        (seen_by D.room D.tracks D.journal D.faults pager.new)
+        → RefinesReading object.now (pager_view D.room D.tracks D.journal D.faults pager.old)
+        (pager_view D.room D.tracks D.journal D.faults pager.new)
         (effect (code_in tracks object.now) (length frames.now.words) (regs_of m.old frames.now input) ByVal order.level
         order.address) (regs_of m.new frames.now input) result }
-    ensures keeps { Keeps m.old m.new }
-    ensures goes { IfOk result (λ next. Goes object.now.words m.old next m.new) }
+    ensures keeps { PreservesPlace m.old m.new }
+    ensures goes { IfOk result (λ next. Progresses object.now.words m.old next m.new) }
     ensures same_references { SamePager pager.old pager.new }
-    ensures reads { Reads 2 object.now (seen_by D.room D.tracks D.journal D.faults pager.old)
-        (seen_by D.room D.tracks D.journal D.faults pager.new) }
+    ensures reads { Reads 2 object.now (pager_view D.room D.tracks D.journal D.faults pager.old)
+        (pager_view D.room D.tracks D.journal D.faults pager.new) }
     ensures failed { result ≡ Err DrumFailed → HasRisen (D.faults pager.old.drum.now) (D.faults pager.new.drum.now) }
     ensures odd { result ≡ Err (Stopped Odd) → m.new ≡ m.old }
 {
@@ -364,16 +349,16 @@ fn fetch_kind<D: Drum>(
     requires within { at < count }
     requires few { count ≤ 80 }
     requires list { list ≤ 2 ^ 40 }
-    requires can { CanRead 1 object.now (seen_by D.room D.tracks D.journal D.faults pager.old) }
+    requires can { CanRead 1 object.now (pager_view D.room D.tracks D.journal D.faults pager.old) }
     ensures row { (tracks : List (List ℕ)) (regs : Regs) (go : ℕ → Row) → D.tracks pager.old.drum.now ≡ Some tracks
         → Agrees (Some tracks) pager.old.places.now.held
-        → Searches object.now (seen_by D.room D.tracks D.journal D.faults pager.old)
-        (seen_by D.room D.tracks D.journal D.faults pager.new)
+        → RefinesSearch object.now (pager_view D.room D.tracks D.journal D.faults pager.old)
+        (pager_view D.room D.tracks D.journal D.faults pager.new)
         (reads_row (code_in tracks object.now) (list + at / 10)
         (λ word. needs (is_packed 1 (count - at / 10 * 10) word) (go (kind_in word (at % 10))))) regs go result }
     ensures same_references { SamePager pager.old pager.new }
-    ensures reads { Reads 1 object.now (seen_by D.room D.tracks D.journal D.faults pager.old)
-        (seen_by D.room D.tracks D.journal D.faults pager.new) }
+    ensures reads { Reads 1 object.now (pager_view D.room D.tracks D.journal D.faults pager.old)
+        (pager_view D.room D.tracks D.journal D.faults pager.new) }
     ensures failed { result ≡ Err DrumFailed → HasRisen (D.faults pager.old.drum.now) (D.faults pager.new.drum.now) }
 {
     let group = at / GROUP;

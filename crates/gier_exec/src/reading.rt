@@ -4,13 +4,13 @@ ghost use Rattle.gier_order.specs.declared.order.Order.{Order};
 ghost use Rattle.gier_order.specs.Flat.Row.{Regs, Row, needs, reads};
 ghost use Rattle.gier_order.specs.Flat.Rows.{reads_order};
 ghost use Rattle.gier_order.specs.Flat.Kinds.{is_a};
-ghost use Rattle.gier_exec.specs.Searching.{Searches};
+ghost use Rattle.gier_exec.specs.Searching.{RefinesSearch};
 ghost use Rattle.gier_places.specs.Contents.{Agrees};
 ghost use Rattle.gier_exec.specs.Rows.{word_in, code_in};
-ghost use Rattle.gier_exec.specs.References.{Refers, Fetches, read_at, fetched_at};
+ghost use Rattle.gier_exec.specs.References.{Refers, RefinesFetch, read_at, fetched_at};
 ghost use Rattle.gier_word.specs.Cause.{HasCause, HasRisen};
 ghost use Rattle.gier_order.specs.Codes.{IsOrder};
-ghost use Rattle.gier_exec.specs.Reading.{CanRead, Reads, SamePager, seen_by};
+ghost use Rattle.gier_exec.specs.Reading.{CanRead, Reads, SamePager, pager_view};
 ghost use Rattle.gier_exec.specs.declared.stop.Miss.TheVariants.{Drum as DrumFailed, Stop as Stopped};
 ghost use Rattle.gier_exec.specs.declared.stop.Stop.TheVariants.{Odd};
 
@@ -30,16 +30,17 @@ pub(crate) fn read_word<D: Drum>(
     pager: &mut Pager<D>,
     address: u32,
 ) -> Result<u64, Failed>
-    requires can { CanRead 1 object.now (seen_by D.room D.tracks D.journal D.faults pager.old) }
+    requires can { CanRead 1 object.now (pager_view D.room D.tracks D.journal D.faults pager.old) }
     requires within { address < object.now.words }
     ensures same_references { SamePager pager.old pager.new }
-    ensures reads { Reads 1 object.now (seen_by D.room D.tracks D.journal D.faults pager.old)
-        (seen_by D.room D.tracks D.journal D.faults pager.new) }
+    ensures reads { Reads 1 object.now (pager_view D.room D.tracks D.journal D.faults pager.old)
+        (pager_view D.room D.tracks D.journal D.faults pager.new) }
     ensures small { IfOk result (λ word. word < 2 ^ 40) }
     ensures refers { Refers object.now (read_at address result)
-        (seen_by D.room D.tracks D.journal D.faults pager.old)
-        (seen_by D.room D.tracks D.journal D.faults pager.new) }
-    ensures word { (tracks : List (List ℕ)) → D.tracks pager.old.drum.now ≡ Some tracks → Agrees (Some tracks) pager.old.places.now.held
+        (pager_view D.room D.tracks D.journal D.faults pager.old)
+        (pager_view D.room D.tracks D.journal D.faults pager.new) }
+    ensures word { (tracks : List (List ℕ)) → D.tracks pager.old.drum.now ≡ Some tracks
+        → Agrees (Some tracks) pager.old.places.now.held
         → IfOk result (λ word. word ≡ word_in tracks object.now address) }
     ensures cause { HasCause (D.faults pager.old.drum.now) (D.faults pager.new.drum.now) result }
 {
@@ -61,16 +62,17 @@ pub(crate) fn fetch<D: Drum>(
     pager: &mut Pager<D>,
     address: u64,
 ) -> Result<u64, Miss>
-    requires can { CanRead 1 object.now (seen_by D.room D.tracks D.journal D.faults pager.old) }
+    requires can { CanRead 1 object.now (pager_view D.room D.tracks D.journal D.faults pager.old) }
     ensures same_references { SamePager pager.old pager.new }
-    ensures reads { Reads 1 object.now (seen_by D.room D.tracks D.journal D.faults pager.old)
-        (seen_by D.room D.tracks D.journal D.faults pager.new) }
+    ensures reads { Reads 1 object.now (pager_view D.room D.tracks D.journal D.faults pager.old)
+        (pager_view D.room D.tracks D.journal D.faults pager.new) }
     ensures small { IfOk result (λ word. word < 2 ^ 40) }
     ensures refers { Refers object.now (fetched_at address result)
-        (seen_by D.room D.tracks D.journal D.faults pager.old)
-        (seen_by D.room D.tracks D.journal D.faults pager.new) }
-    ensures row { (tracks : List (List ℕ)) → D.tracks pager.old.drum.now ≡ Some tracks → Agrees (Some tracks) pager.old.places.now.held → (go : ℕ → Row)
-        → Fetches (reads (code_in tracks object.now) address go) go address result }
+        (pager_view D.room D.tracks D.journal D.faults pager.old)
+        (pager_view D.room D.tracks D.journal D.faults pager.new) }
+    ensures row { (tracks : List (List ℕ)) → D.tracks pager.old.drum.now ≡ Some tracks
+        → Agrees (Some tracks) pager.old.places.now.held → (go : ℕ → Row)
+        → RefinesFetch (reads (code_in tracks object.now) address go) go address result }
     ensures within { IfOk result (λ word. address < object.now.words) }
     ensures odd { result ≡ Err (Stopped Odd) → object.now.words ≤ address }
     ensures failed { result ≡ Err DrumFailed → HasRisen (D.faults pager.old.drum.now) (D.faults pager.new.drum.now) }
@@ -90,14 +92,14 @@ pub(crate) fn fetch_order<D: Drum>(
     pager: &mut Pager<D>,
     address: u64,
 ) -> Result<Order, Miss>
-    requires can { CanRead 1 object.now (seen_by D.room D.tracks D.journal D.faults pager.old) }
+    requires can { CanRead 1 object.now (pager_view D.room D.tracks D.journal D.faults pager.old) }
     ensures same_references { SamePager pager.old pager.new }
-    ensures reads { Reads 1 object.now (seen_by D.room D.tracks D.journal D.faults pager.old)
-        (seen_by D.room D.tracks D.journal D.faults pager.new) }
+    ensures reads { Reads 1 object.now (pager_view D.room D.tracks D.journal D.faults pager.old)
+        (pager_view D.room D.tracks D.journal D.faults pager.new) }
     ensures row { (tracks : List (List ℕ)) (size : ℕ) (regs : Regs) (go : Order → Row) → D.tracks pager.old.drum.now ≡ Some tracks
         → Agrees (Some tracks) pager.old.places.now.held
-        → Searches object.now (seen_by D.room D.tracks D.journal D.faults pager.old)
-        (seen_by D.room D.tracks D.journal D.faults pager.new)
+        → RefinesSearch object.now (pager_view D.room D.tracks D.journal D.faults pager.old)
+        (pager_view D.room D.tracks D.journal D.faults pager.new)
         (reads_order (code_in tracks object.now) size regs address go) regs go result }
     ensures order { IfOk result IsOrder }
     ensures within { IfOk result (λ order. address < object.now.words) }
@@ -120,14 +122,14 @@ pub(crate) fn fetch_only<D: Drum>(
     address: u64,
     operation: Operation,
 ) -> Result<Order, Miss>
-    requires can { CanRead 1 object.now (seen_by D.room D.tracks D.journal D.faults pager.old) }
+    requires can { CanRead 1 object.now (pager_view D.room D.tracks D.journal D.faults pager.old) }
     ensures same_references { SamePager pager.old pager.new }
-    ensures reads { Reads 1 object.now (seen_by D.room D.tracks D.journal D.faults pager.old)
-        (seen_by D.room D.tracks D.journal D.faults pager.new) }
+    ensures reads { Reads 1 object.now (pager_view D.room D.tracks D.journal D.faults pager.old)
+        (pager_view D.room D.tracks D.journal D.faults pager.new) }
     ensures row { (tracks : List (List ℕ)) (size : ℕ) (regs : Regs) (go : Order → Row) → D.tracks pager.old.drum.now ≡ Some tracks
         → Agrees (Some tracks) pager.old.places.now.held
-        → Searches object.now (seen_by D.room D.tracks D.journal D.faults pager.old)
-        (seen_by D.room D.tracks D.journal D.faults pager.new)
+        → RefinesSearch object.now (pager_view D.room D.tracks D.journal D.faults pager.old)
+        (pager_view D.room D.tracks D.journal D.faults pager.new)
         (reads_order (code_in tracks object.now) size regs address (λ order. needs (is_a operation order) (go order))) regs go
         result }
     ensures order { IfOk result IsOrder }

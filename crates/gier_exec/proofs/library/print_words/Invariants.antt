@@ -1,7 +1,7 @@
 use Rattle.std.proofs.Common.{◌≡◌, ◌≤◌, ◌+◌, ◌/◌, ℕ, List, Some}
 use Rattle.gier_io.specs.Device.{Puts}
 use Rattle.gier_places.specs.Contents.{Agrees}
-use Rattle.gier_exec.specs.Reading.{Reads, SamePager, seen_by}
+use Rattle.gier_exec.specs.Reading.{Reads, SamePager, pager_view}
 use Rattle.gier_exec.specs.Rows.{code_in}
 use Rattle.gier_exec.specs.References.{Refers}
 use Rattle.gier_exec.proofs.Strings.{Printed}
@@ -9,7 +9,7 @@ use Rattle.gier_exec.proofs.library.print_words.Given as goal
 
 abbrev pub invariant-loop-at : goal.invariant-loop-at
 invariant-loop-at g l =
-    let seen_of = seen_by g.D.Drum.room g.D.Drum.tracks g.D.Drum.journal g.D.Drum.faults in
+    let seen_of = pager_view g.D.Drum.room g.D.Drum.tracks g.D.Drum.journal g.D.Drum.faults in
     let old = seen_of l.initial.pager in
     let new = seen_of l.pager in
     Reads l.at l.object old new

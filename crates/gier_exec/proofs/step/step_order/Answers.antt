@@ -5,7 +5,7 @@ use Rattle.gier_order.specs.Codes.{order_at}
 use Rattle.gier_order.specs.Flat.Rows.{row}
 use Rattle.gier_places.specs.Contents.{Agrees}
 use Rattle.gier_exec.specs.Rows.{regs_of, code_in, word_in}
-use Rattle.gier_exec.specs.Turning.{Follows, turned}
+use Rattle.gier_exec.specs.Turning.{RefinesTurn, turn_of_stop}
 use Rattle.gier_exec.proofs.Readings.{reads_both}
 use Rattle.gier_exec.proofs.Referrings.{refers_both, refers_at}
 use Rattle.gier_exec.proofs.WholeOrders.{row_none, row_some}
@@ -89,8 +89,8 @@ returns-in-Err-execute-clause-row g c = λ tracks told agrees.
           let before = regs_of c.args.m.now c.args.frames.now (did.2 ++ rest) in
           let after = regs_of c.execute.new.m c.execute.new.frames rest in
           let whole = row (code_in tracks object) (length c.args.frames.now.words) before in
-          rw c.turn_of.ensures.value (subst (λ p. Follows whole before after (place ∷ did.0) did.1 did.2 place found (turned c.in-Err-execute.quit p c.in-Ok.word)) (sym c.place-place.ensures)
-          (subst (λ w. Follows whole before after (place ∷ did.0) did.1 did.2 place found (turned c.in-Err-execute.quit place w)) (sym word)
+          rw c.turn_of.ensures.value (subst (λ p. RefinesTurn whole before after (place ∷ did.0) did.1 did.2 place found (turn_of_stop c.in-Err-execute.quit p c.in-Ok.word)) (sym c.place-place.ensures)
+          (subst (λ w. RefinesTurn whole before after (place ∷ did.0) did.1 did.2 place found (turn_of_stop c.in-Err-execute.quit place w)) (sym word)
           (follows_quit whole _ before after did.0 did.1 did.2 place found c.in-Err-execute.quit
           (row_some tracks object (length c.args.frames.now.words) before c.in-Ok.word c.in-Some.order c.requires.place word some) (did.6 rest is)))),
     )
