@@ -1,4 +1,4 @@
-use Rattle.std.proofs.Common.{◌≡◌, [], ◌∷◌, ◌++◌, length, Some, None, ap, sym, subst, ◌∙◌}
+use Rattle.std.proofs.Common.{rules, ◌≡◌, [], ◌∷◌, ◌++◌, length, Some, None, ap, sym, subst, ◌∙◌}
 use Rattle.gier_library.proofs.ReadsInOrder.{takes_nothing}
 use Rattle.gier_library.specs.DataView.{stand_of}
 use Rattle.gier_order.specs.Codes.{order_at}
@@ -6,6 +6,9 @@ use Rattle.gier_order.specs.Flat.Rows.{row}
 use Rattle.gier_places.specs.Contents.{Agrees}
 use Rattle.gier_exec.specs.Rows.{regs_of, code_in, word_in}
 use Rattle.gier_exec.specs.Turning.{RefinesTurn, turn_of_stop}
+use Rattle.gier_best.specs.TraceModel.{AreTracks}
+use Rattle.gier_exec.specs.Reading.{ReadsMore}
+use Rattle.gier_exec.proofs.Pagers.{refers_by}
 use Rattle.gier_exec.proofs.Readings.{reads_both}
 use Rattle.gier_exec.proofs.Referrings.{refers_both, refers_at}
 use Rattle.gier_exec.proofs.WholeOrders.{row_none, row_some}
@@ -13,27 +16,41 @@ use Rattle.gier_exec.proofs.Turnings.{puts_nothing, cut_nothing, follows_on, fol
 use Rattle.gier_exec.proofs.step.step_order.Goals as goal
 
 pub returns-in-Ok-execute-clause-journal : goal.returns-in-Ok-execute-clause-journal
-returns-in-Ok-execute-clause-journal g c = reads_both _ _ _ c.read_word.ensures.reads.journal c.execute.ensures.reads.journal
+returns-in-Ok-execute-clause-journal g c =
+    let is_drum : c.drum-2-1.given.0 ≡ c.execute.new.pager.drum.now = search rules in
+    subst (λ drum. ReadsMore (g.D.Drum.journal c.args.drum.now) (g.D.Drum.journal drum)) (sym is_drum) (reads_both _ _ _ c.read_word.ensures.reads.journal c.execute.ensures.reads.journal)
 
 pub returns-in-Err-execute-clause-journal : goal.returns-in-Err-execute-clause-journal
-returns-in-Err-execute-clause-journal g c = reads_both _ _ _ c.read_word.ensures.reads.journal c.execute.ensures.reads.journal
+returns-in-Err-execute-clause-journal g c =
+    let is_drum : c.drum-2-1.given.0 ≡ c.execute.new.pager.drum.now = search rules in
+    subst (λ drum. ReadsMore (g.D.Drum.journal c.args.drum.now) (g.D.Drum.journal drum)) (sym is_drum) (reads_both _ _ _ c.read_word.ensures.reads.journal c.execute.ensures.reads.journal)
 
 pub returns-in-Err-clause-row : goal.returns-in-Err-clause-row
-returns-in-Err-clause-row g c = λ tracks told agrees. (
-  [],
-  [],
-  [],
-  c.in-Err.ensures.refers,
-  puts_nothing _,
-  takes_nothing (stand_of g.S.Source.left c.args.input.now) c.args.input.now.limited c.args.input.now.below,
-  λ rest is. cut_nothing _ _,
-)
+returns-in-Err-clause-row g c = λ tracks told agrees.
+    let is_drum : c.drum-1.given.0 ≡ c.read_word.new.pager.drum.now = search rules in
+    let is_places : c.places-1.given.0 ≡ c.read_word.new.pager.places.now = search rules in
+    let is_recent : c.recent-1.given.0 ≡ c.read_word.new.pager.recent.now = search rules in
+    let is_trace : c.trace-1.given.0 ≡ c.read_word.new.pager.trace.now = search rules in (
+      [],
+      [],
+      [],
+      refers_by g.D.Drum.room g.D.Drum.tracks g.D.Drum.journal g.D.Drum.faults _ _ _ c.read_word.new.pager _ _ _ _ is_drum is_places is_recent is_trace (c.in-Err.ensures.refers),
+      puts_nothing _,
+      takes_nothing (stand_of g.S.Source.left c.args.input.now) c.args.input.now.limited c.args.input.now.below,
+      λ rest is. cut_nothing _ _,
+    )
 
 pub returns-in-Ok-execute-clause-noted : goal.returns-in-Ok-execute-clause-noted
-returns-in-Ok-execute-clause-noted g c = λ least were. c.execute.ensures.reads.noted (rw c.read_word.ensures.reads.settings.tracks least) (c.read_word.ensures.reads.noted least were)
+returns-in-Ok-execute-clause-noted g c = λ least were.
+    let is_trace : c.trace-2-1.given.0 ≡ c.execute.new.pager.trace.now = search rules in
+    subst (λ trace. AreTracks trace) (sym is_trace) (c.execute.ensures.reads.noted (rw c.read_word.ensures.reads.settings.tracks least) (c.read_word.ensures.reads.noted least were))
 
 pub returns-in_default-clause-row : goal.returns-in_default-clause-row
 returns-in_default-clause-row g c = λ tracks told agrees.
+    let is_drum : c.drum-in_default-1.given.0 ≡ c.read_word.new.pager.drum.now = search rules in
+    let is_places : c.places-in_default-1.given.0 ≡ c.read_word.new.pager.places.now = search rules in
+    let is_recent : c.recent-in_default-1.given.0 ≡ c.read_word.new.pager.recent.now = search rules in
+    let is_trace : c.trace-in_default-1.given.0 ≡ c.read_word.new.pager.trace.now = search rules in
     let place = c.args.m.now.place in
     let object = c.args.object.now in
     let word : c.in-Ok.word ≡ word_in tracks object place = subst (λ p. c.in-Ok.word ≡ word_in tracks object p) c.place-place.ensures (c.in-Ok.ensures.word tracks told agrees) in
@@ -41,7 +58,7 @@ returns-in_default-clause-row g c = λ tracks told agrees.
       place ∷ [],
       [],
       [],
-      refers_at object _ _ _ _ c.place-place.ensures c.in-Ok.ensures.refers,
+      refers_by g.D.Drum.room g.D.Drum.tracks g.D.Drum.journal g.D.Drum.faults _ _ _ c.read_word.new.pager _ _ _ _ is_drum is_places is_recent is_trace (refers_at object _ _ _ _ c.place-place.ensures c.in-Ok.ensures.refers),
       puts_nothing _,
       takes_nothing (stand_of g.S.Source.left c.args.input.now) c.args.input.now.limited c.args.input.now.below,
       λ rest is. rw c.spoilt.ensures (
@@ -52,6 +69,10 @@ returns-in_default-clause-row g c = λ tracks told agrees.
 
 pub returns-in-Ok-execute-clause-row : goal.returns-in-Ok-execute-clause-row
 returns-in-Ok-execute-clause-row g c = λ tracks told agrees.
+    let is_drum : c.drum-2-1.given.0 ≡ c.execute.new.pager.drum.now = search rules in
+    let is_places : c.places-2-1.given.0 ≡ c.execute.new.pager.places.now = search rules in
+    let is_recent : c.recent-2-1.given.0 ≡ c.execute.new.pager.recent.now = search rules in
+    let is_trace : c.trace-2-1.given.0 ≡ c.execute.new.pager.trace.now = search rules in
     let place = c.args.m.now.place in
     let object = c.args.object.now in
     let word : c.in-Ok.word ≡ word_in tracks object place = subst (λ p. c.in-Ok.word ≡ word_in tracks object p) c.place-place.ensures (c.in-Ok.ensures.word tracks told agrees) in
@@ -62,7 +83,7 @@ returns-in-Ok-execute-clause-row g c = λ tracks told agrees.
       place ∷ did.0,
       did.1,
       did.2,
-      refers_both object (place ∷ []) did.0 _ _ _ c.read_word.ensures.reads.places (refers_at object _ _ _ _ c.place-place.ensures c.in-Ok.ensures.refers) did.3,
+      refers_by g.D.Drum.room g.D.Drum.tracks g.D.Drum.journal g.D.Drum.faults _ _ _ c.execute.new.pager _ _ _ _ is_drum is_places is_recent is_trace (refers_both object (place ∷ []) did.0 _ _ _ c.read_word.ensures.reads.places (refers_at object _ _ _ _ c.place-place.ensures c.in-Ok.ensures.refers) did.3),
       did.4,
       did.5,
       λ rest is. rw c.set_place.ensures (follows_on _ _ did.0 did.1 (regs_of c.execute.new.m c.execute.new.frames rest) place c.in-Ok-execute.next
@@ -71,6 +92,10 @@ returns-in-Ok-execute-clause-row g c = λ tracks told agrees.
 
 pub returns-in-Err-execute-clause-row : goal.returns-in-Err-execute-clause-row
 returns-in-Err-execute-clause-row g c = λ tracks told agrees.
+    let is_drum : c.drum-2-1.given.0 ≡ c.execute.new.pager.drum.now = search rules in
+    let is_places : c.places-2-1.given.0 ≡ c.execute.new.pager.places.now = search rules in
+    let is_recent : c.recent-2-1.given.0 ≡ c.execute.new.pager.recent.now = search rules in
+    let is_trace : c.trace-2-1.given.0 ≡ c.execute.new.pager.trace.now = search rules in
     let place = c.args.m.now.place in
     let object = c.args.object.now in
     let found = word_in tracks object place in
@@ -82,7 +107,7 @@ returns-in-Err-execute-clause-row g c = λ tracks told agrees.
       place ∷ did.0,
       did.1,
       did.2,
-      refers_both object (place ∷ []) did.0 _ _ _ c.read_word.ensures.reads.places (refers_at object _ _ _ _ c.place-place.ensures c.in-Ok.ensures.refers) did.3,
+      refers_by g.D.Drum.room g.D.Drum.tracks g.D.Drum.journal g.D.Drum.faults _ _ _ c.execute.new.pager _ _ _ _ is_drum is_places is_recent is_trace (refers_both object (place ∷ []) did.0 _ _ _ c.read_word.ensures.reads.places (refers_at object _ _ _ _ c.place-place.ensures c.in-Ok.ensures.refers) did.3),
       did.4,
       did.5,
       λ rest is.
