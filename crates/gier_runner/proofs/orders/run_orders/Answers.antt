@@ -1,13 +1,13 @@
 use Rattle.std.proofs.Common.{◌∙◌, length, rules, refl, ap, sym}
 use Rattle.gier_library.specs.DataView.{source_of, stand_of}
 use Rattle.gier_library.proofs.ReadsInOrder.{takes_nothing}
-use Rattle.gier_exec.specs.Reading.{seen}
+use Rattle.gier_exec.specs.Reading.{view_of}
 use Rattle.gier_runner.specs.RunInvariant.{devices, parts}
 use Rattle.gier_runner.proofs.Numbers.{next_counts}
 use Rattle.gier_runner.proofs.OrdersTogether.{reads_begin, reads_more, sizes_begin, sizes_more}
 use Rattle.gier_runner.proofs.RunSteps.{now}
 use Rattle.gier_runner.proofs.WordsOfRun.{goes_first, goes_flat, runs_flat}
-use Rattle.gier_runner.proofs.orders.obey.Goals as goal
+use Rattle.gier_runner.proofs.orders.run_orders.Goals as goal
 
 -- src/orders.rt:51:13
 pub returns-in-Some-clause-sizes : goal.returns-in-Some-clause-sizes
@@ -33,14 +33,14 @@ loop-ending-preserved g c = (
       c.step_order-turn.ensures.drum_later c.step_order-turn.ensures.source_later c.step_order-turn.ensures.sink_later,
   search rules,
   goes_flat (length c.args.frames.now.words) c.args.object.now _
-      (now (seen g.D.Drum.room g.D.Drum.tracks g.D.Drum.journal g.D.Drum.faults c.loop-ending.drum c.loop-ending.places c.loop-ending.recent c.loop-ending.trace) (g.K.Sink.holds c.loop-ending.out) (stand_of g.S.Source.left c.loop-ending.input) c.loop-ending.m c.loop-ending.frames)
+      (now (view_of g.D.Drum.room g.D.Drum.tracks g.D.Drum.journal g.D.Drum.faults c.loop-ending.drum c.loop-ending.places c.loop-ending.recent c.loop-ending.trace) (g.K.Sink.holds c.loop-ending.out) (stand_of g.S.Source.left c.loop-ending.input) c.loop-ending.m c.loop-ending.frames)
       _ c.step_order-turn.result c.loop-ending.invariant.5 c.loop-ending.invariant.2.frames c.loop-ending.invariant.3.tracks c.loop-ending.invariant.2.places c.loop-ending.invariant.0
       c.step_order-turn.ensures.row (sym c.ending_of.ensures ∙ c.in_default.is),
 )
 
 pub returns-in-Some-clause-flat : goal.returns-in-Some-clause-flat
 returns-in-Some-clause-flat g c = runs_flat (length c.args.frames.now.words) c.args.object.now _
-    (now (seen g.D.Drum.room g.D.Drum.tracks g.D.Drum.journal g.D.Drum.faults c.loop-ending.drum c.loop-ending.places c.loop-ending.recent c.loop-ending.trace) (g.K.Sink.holds c.loop-ending.out) (stand_of g.S.Source.left c.loop-ending.input) c.loop-ending.m c.loop-ending.frames)
+    (now (view_of g.D.Drum.room g.D.Drum.tracks g.D.Drum.journal g.D.Drum.faults c.loop-ending.drum c.loop-ending.places c.loop-ending.recent c.loop-ending.trace) (g.K.Sink.holds c.loop-ending.out) (stand_of g.S.Source.left c.loop-ending.input) c.loop-ending.m c.loop-ending.frames)
     _ c.step_order-turn.result c.in-Some.ending c.loop-ending.invariant.5 c.loop-ending.invariant.2.frames c.loop-ending.invariant.3.tracks c.loop-ending.invariant.2.places c.loop-ending.invariant.0
     c.step_order-turn.ensures.row (sym c.ending_of.ensures ∙ c.in-Some.is)
     (λ odd spoilt. let same = c.step_order-turn.ensures.spoilt odd spoilt in (same.0, same.1.0, ap (λ input. stand_of g.S.Source.left input) same.1.1.1))
