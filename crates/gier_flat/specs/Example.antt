@@ -1,7 +1,11 @@
 -- A program for which the law's premises hold: a label, a conditional statement with a go to it, and what is printed.
 use Rattle.std.specs.Prelude.{[], ◌∷◌}
 use Rattle.gier_tree.specs.SpellExamples.{at}
-use Rattle.gier_tree.specs.Trees.{Add, LessThan, OneSimple, OneImplication, OneDisjunction, OneConjunction, OneNegation, OneRelation, OneArithmetic, Compared, OneTerm, Summed, OneFactor, OnePrimary, Numeral, OneCall, Alone, WithActuals, OneExpr, NoActuals, only, MkCompound, NoStatements, MoreStatements, OneUnconditional, OneConditional, MkUnconditional, Jump, CallStatement, IfElse, Expr, Statement, Program, MkProgram}
+use Rattle.gier_tree.specs.Trees.{Add, LessThan, OneSimple, OneImplication, OneDisjunction, OneConjunction, OneNegation}
+use Rattle.gier_tree.specs.Trees.{OneRelation, OneArithmetic, Compared, OneTerm, Summed, OneFactor, OnePrimary, Numeral}
+use Rattle.gier_tree.specs.Trees.{OneCall, Alone, WithActuals, OneExpr, NoActuals, only, MkCompound, NoStatements}
+use Rattle.gier_tree.specs.Trees.{MoreStatements, OneUnconditional, OneConditional, MkUnconditional, Jump, CallStatement}
+use Rattle.gier_tree.specs.Trees.{IfElse, Expr, Statement, Program, MkProgram}
 
 -- 1 + 2, and 2 < 1
 abbrev pub sum : Expr

@@ -1,4 +1,5 @@
-// The limits of programs, texts and words, and how the drum is divided: two areas for the texts, and the object's tracks behind them.
+// The limits of programs, texts and words, and how the drum is divided: two areas for the texts, and the object's tracks behind
+// them.
 #![tactic(auto)]
 
 mod areas;

@@ -92,7 +92,8 @@ pub(crate) fn feed(
     ensures bytes { ready.new.bytes ≡ ready.old.bytes }
     ensures waits { result ≡ waits_after waiting s plain }
     ensures given { buffered ready.new ≡ buffered ready.old ++ given_by waiting s plain }
-    ensures few { length (buffered ready.new) + length (symbols_of result) ≤ length (buffered ready.old) + length (symbols_of waiting) + 1 }
+    ensures few { length (buffered ready.new) + length (symbols_of result)
+        ≤ length (buffered ready.old) + length (symbols_of waiting) + 1 }
     ensures writable { IsWaiting ready.old.bytes result }
 {
     if let Some(more) = longer(waiting, s, plain) {

@@ -106,7 +106,8 @@ pub(crate) fn step(tables: &mut Tables, node: u32, s: Symbol) -> u32
     ensures kept { KeepsNodes (tables_model tables.old) (tables_model tables.new) }
     ensures few { node_count (tables_model tables.new) ≤ node_count (tables_model tables.old) + 1 }
     ensures node { result < node_count (tables_model tables.new) }
-    ensures names { (tree : Tree) → (known : ℕ) → (names : List (List ℕ)) → Knows (tables_model tables.old) tree known names → IsSign s
+    ensures names { (tree : Tree) → (known : ℕ) → (names : List (List ℕ)) → Knows (tables_model tables.old) tree known names
+        → IsSign s
         → Names (tables_model tables.new) known names result (tree.name node ++ byte_of s ∷ []) }
 {
     let known = child(tables, node, s);
@@ -125,7 +126,8 @@ pub(crate) fn first(tables: &mut Tables, s: Symbol) -> u32
     ensures kept { KeepsNodes (tables_model tables.old) (tables_model tables.new) }
     ensures few { node_count (tables_model tables.new) ≤ node_count (tables_model tables.old) + 1 }
     ensures node { result < node_count (tables_model tables.new) }
-    ensures names { (tree : Tree) → (known : ℕ) → (names : List (List ℕ)) → Knows (tables_model tables.old) tree known names → IsSign s
+    ensures names { (tree : Tree) → (known : ℕ) → (names : List (List ℕ)) → Knows (tables_model tables.old) tree known names
+        → IsSign s
         → Names (tables_model tables.new) known names result (byte_of s ∷ []) }
 {
     step(tables, ROOT, s)

@@ -62,7 +62,8 @@ impl Pass4 {
     }
 
     /// The number of an own quantity, which stands behind its declaring place. With the first of a declaration it is known that the
-    /// declaration is an own one: it goes to the block around the program, with a `;` behind it that has the line of this identifier.
+    /// declaration is an own one: it goes to the block around the program, with a `;` behind it that has the line of this
+    /// identifier.
     pub(crate) fn own_number(&mut self, s: Symbol, tables: &mut Tables)
         requires ready { StateInvariant self.old (tables_model tables.old) 1 }
         requires line { s.line < 2 ^ 24 }
@@ -149,8 +150,8 @@ impl Pass4 {
         }
     }
 
-    /// Writes the own declarations and the beginning of the block, where there is one, the program's entries from `base` on, and the
-    /// mark before the program.
+    /// Writes the own declarations and the beginning of the block, where there is one, the program's entries from `base` on, and
+    /// the mark before the program.
     pub(crate) fn begin_program(&mut self, s: Symbol, base: u32, tables: &mut Tables)
         requires ready { StateInvariant self.old (tables_model tables.old) 1 }
         requires letter { IsLetter self.old.lists.bytes s }

@@ -63,7 +63,8 @@ pub(crate) fn set(tables: &mut Tables, row: u32, word: u64)
     requires lists { HasLists (tables_model tables.old) }
     requires row { row < row_count (tables_model tables.old) }
     requires small { word < 2 ^ 40 }
-    ensures value { tables_model tables.new ≡ with_at (tables_model tables.old) 3 (with_word (list_at (tables_model tables.old).lists 3) row 0 word) }
+    ensures value { tables_model tables.new
+        ≡ with_at (tables_model tables.old) 3 (with_word (list_at (tables_model tables.old).lists 3) row 0 word) }
     ensures keeps { Keeps (tables_model tables.old) (tables_model tables.new) }
 {
     tables.set_word(INDEX, row, ENTRY, word);

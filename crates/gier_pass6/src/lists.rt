@@ -119,8 +119,8 @@ impl State {
         count
     }
 
-    // A subscript or actual that has ended doesn't fit. The fault stands at the symbol before it. At the opening bracket it waits for the
-    // number, and where the list is too long, that is the fault there.
+    // A subscript or actual that has ended doesn't fit. The fault stands at the symbol before it. At the opening bracket it waits
+    // for the number, and where the list is too long, that is the fault there.
     pub(crate) fn misfit(&mut self, tables: &mut Tables, most: u64, kind: FaultKind, spot: Location)
         requires ready { StateInvariant self.old (tables_model tables.old) }
         ensures { PreservesState self.old (tables_model tables.old) self.new (tables_model tables.new) }

@@ -44,7 +44,8 @@ fn moved_value(tag: u64, value: u64, first: u64, target: u64) -> u64 {
 impl State {
     ghost use Rattle.gier_pass7.specs.StateInvariants.{StateInvariant, PreservesState};
 
-    // Moves what waits from a place on by so many entries, and gives the labels from the first one on there numbers from the target on.
+    // Moves what waits from a place on by so many entries, and gives the labels from the first one on there numbers from the target
+    // on.
     pub(crate) fn gap(&mut self, tables: &mut Tables, at: u64, count: u64, first: u64, target: u64)
         requires ready { StateInvariant self.old (tables_model tables.old) }
         ensures { PreservesState self.old (tables_model tables.old) self.new (tables_model tables.new) }

@@ -9,7 +9,8 @@ use crate::state::State;
 use gier_order::Operation;
 use gier_text::Tables;
 
-// Behind the first free working place, where the run goes on after a turn, stand the address of the variable and then its value for the sum.
+// Behind the first free working place, where the run goes on after a turn, stand the address of the variable and then its value for
+// the sum.
 const ADDRESS: u64 = 1;
 
 const SUM: u64 = 2;

@@ -27,7 +27,8 @@ pub(crate) fn room(limit: u32) -> u32
 pub(crate) fn set_mark(tables: &mut Tables, label: u64, place: u32, room: u32)
     requires labels { HasLabels room (tables_model tables.old) }
     ensures kept { KeepsLabels room (tables_model tables.old) (tables_model tables.new) }
-    ensures marks { (other : ℕ) → marks_of (tables_model tables.new) other ≡ with_mark room label place (marks_of (tables_model tables.old)) other }
+    ensures marks { (other : ℕ) → marks_of (tables_model tables.new) other
+        ≡ with_mark room label place (marks_of (tables_model tables.old)) other }
 {
     gier_labels::set_word(tables, label, u64::from(place) + MARKED, room);
 }

@@ -3,7 +3,8 @@ use Rattle.std.specs.Prelude.{◌≡◌, ◌≤◌, ℕ, false}
 use Rattle.gier_text.specs.View.{View, IsEmpty, Apart}
 
 -- an input that isn't turned yet and an empty output, each in the room of the store, with no track in common
-pub record CanDrive {T S : Type 0} (view : T → S → View) (first end : T → ℕ) (room : S → ℕ) (input output : T) (store : S) : Type 0 where
+pub record CanDrive {T S : Type 0} (view : T → S → View) (first end : T → ℕ) (room : S → ℕ) (input output : T)
+    (store : S) : Type 0 where
   pub writing : (view input store).rewound ≡ false
   pub blank : IsEmpty (view output store)
   pub input_placed : end input ≤ room store
