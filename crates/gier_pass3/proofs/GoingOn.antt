@@ -16,6 +16,9 @@ use Rattle.gier_pass3.specs.Lists.{HasLists, stack_in, held_in, ready_in, ready_
 use Rattle.gier_pass3.specs.Grammar.{HasItems}
 use Rattle.gier_pass3.specs.Found.{IsBare, faults_of, HasFound, Follows}
 use Rattle.gier_pass3.specs.Standing.{IsFit, Holds, IsReady, Steps, Stands, Relates, load, stops}
+use Rattle.gier_pass3.specs.Writing.{WroteMet}
+use Rattle.gier_tree.specs.Signs.{sign_of, sign_tag}
+use Rattle.gier_pass3.proofs.Written.{writes_more, items_of, whole_text}
 use Rattle.gier_pass3.proofs.Following.{found_kept, found_more, found_whole}
 use Rattle.gier_pass3.proofs.Loads.{weight_append, length_weight, no_fit}
 
@@ -72,6 +75,7 @@ is_ready_after pass u h = record {
   within = h.within;
   limit = h.limit;
   small = h.small;
+  owned = h.owned;
 }
 
 load_after : (pass : Pass3) (u : TablesModel) → HasLists u → load pass (emptied u) + potential 3 (ready_by u) ≡ load pass u
@@ -100,6 +104,8 @@ pub record Sees (pass new : Pass3) (t u : TablesModel) (s : Symbol) : Type 0 whe
   pub stays : pass.stopped ≡ true → (new.stopped ≡ true) × (u.faults ≡ t.faults)
   pub told : pass.stopped ≡ false → u.faults ≡ faults_of new.stopped pass.read s.line
   pub follows : pass.stopped ≡ false → IsBare s → HasItems t → Follows new.stopped s t u
+  pub silent : pass.stopped ≡ true → ready_by u ≡ ready_by t
+  pub wrote : pass.stopped ≡ false → IsBare s → HasItems t → WroteMet (sign_tag (sign_of s)) s pass t new u
 
 found_after : (pass new : Pass3) (t u : TablesModel) (read : List Symbol) (s : Symbol) → pass.read ≡ length read → HasLists u → Sees pass new t u s → (All IsBare read → HasFound pass.stopped t read) → All IsBare (read ++ s ∷ []) → HasFound new.stopped (emptied u) (read ++ s ∷ [])
 found_after pass new t u read s taken lists sees found bare =
@@ -114,6 +120,7 @@ stands_more pass new t u read written s h steps sees = record {
   letters = All-append (IsFit 3 new.bytes) written (ready_by u) (same_fit pass.bytes new.bytes written steps.bytes h.letters) steps.ready.holds.ready;
   light = omega (arith, h.light, steps.load, load_after new u steps.ready.holds.lists, weight_append written (ready_by u), length-append read (s ∷ []));
   found = found_after pass new t u read s h.taken steps.ready.holds.lists sees h.found;
+  writes = λ bare. writes_more pass new t u (emptied u) read written s h.none_ready sees.silent (λ (e : pass.stopped ≡ true). (sees.stays e).0) (λ going. sees.wrote going (bare_last read s bare)) (λ going. items_of pass.stopped t read (h.found (bare_before read s bare)) going) (stack_after u steps.ready.holds.lists) (held_after u steps.ready.holds.lists) (h.writes (bare_before read s bare));
 }
 
 pub few_more : (pass new : Pass3) (t u : TablesModel) (read written : List Symbol) → Stands pass t read written → Steps pass new t u → pass.read ≤ pass.bytes → length written + length (ready_by u) ≤ 8 * pass.bytes + 10
@@ -144,4 +151,5 @@ relates_whole pass t read written h = record {
   light = all_light pass t read written h;
   few = omega (arith, h.ready.few, at_most_one pass.stopped);
   found = λ bare. found_whole pass.stopped t read (h.found bare);
+  text = λ bare program spelled. whole_text pass t read written program h.none_ready (h.writes bare) spelled;
 }

@@ -53,7 +53,7 @@ small i = below (number_of i) 256 (small_test i)
 word_item : (i : Item) (left : ℕ) → word_of i left % 256 ≡ number_of i
 word_item i left = omega (arith, small i)
 
-word_left : (i : Item) (left : ℕ) → word_of i left / 256 ≡ beside i left
+pub word_left : (i : Item) (left : ℕ) → word_of i left / 256 ≡ beside i left
 word_left i left = omega (arith, small i)
 
 pub at_word : (i : Item) (left : ℕ) → item_at (word_of i left % 256) ≡ Some i

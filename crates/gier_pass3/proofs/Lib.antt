@@ -6,6 +6,8 @@ pub mod Bare
 pub mod Following
 pub mod Loads
 pub mod Released
+pub mod Entering
+pub mod Written
 pub mod GoingOn
 pub mod Runs
 pub mod Filling
@@ -15,3 +17,8 @@ pub mod Joined
 pub mod Spelling
 pub mod SpelledRows
 pub mod Spelled
+pub mod Operands
+pub mod Expressions
+pub mod Parts
+pub mod Stating
+pub mod Programs

@@ -1,6 +1,6 @@
 -- What lists of symbols weigh, and what becomes of the load when one is written or held.
 use Rattle.std.proofs.Common.{◌≡◌, ◌≤◌, ◌<◌, ◌+◌, ℕ, zero, suc, List, [], ◌∷◌, ◌++◌, length, drop, get_or, arith, refl, ap, ◌∙◌, add-one}
-use Rattle.std.specs.Prelude.{All, IsTrue}
+use Rattle.std.specs.Prelude.{All, IsTrue, nat_lt, true}
 use Rattle.std.proofs.lemmas.Bool.Decides.{nat_tests}
 use Rattle.gier_symbol.specs.declared.symbol.Symbol.{Symbol}
 use Rattle.gier_symbol.specs.Texts.{stands_in}
@@ -15,7 +15,9 @@ use Rattle.gier_pass3.specs.declared.rule.Act.{Act}
 use Rattle.gier_pass3.specs.declared.rule.Role.{Role}
 use Rattle.gier_pass3.specs.declared.rule.Role.TheVariants.{Declaring, Formal, ValueListed, Specified, LabelColon, LeadingPlus, LeadingMinus}
 use Rattle.gier_pass3.specs.Items.{credit_in}
-use Rattle.gier_pass3.specs.Rules.{cost_of, costs, tag_of}
+use Rattle.gier_pass3.specs.declared.rule.Rule.{Rule}
+use Rattle.gier_pass3.specs.declared.rule.Rule.TheVariants.{ProgramLabel}
+use Rattle.gier_pass3.specs.Rules.{cost_of, costs, price, tag_of}
 use Rattle.gier_pass3.specs.Lists.{KeepsLists, stack_in, held_in, ready_in, held_by, ready_by}
 use Rattle.gier_pass3.specs.Standing.{IsFit, IsName, name_weight, Holds, Moves}
 
@@ -148,3 +150,14 @@ moves_all pass t u holds keeps stack held ready = record {
   limit = keeps.limit;
   faults = keeps.faults;
 }
+
+-- a rule costs little
+price_test : (rule : Rule) → nat_lt (price rule) 33 ≡ true
+price_test ProgramLabel = refl
+price_test _ = refl
+
+pub small_price : (rule : Rule) → price rule ≤ 32
+small_price rule = less_price (price rule) (price_test rule)
+  where
+    less_price : (n : ℕ) → nat_lt n 33 ≡ true → n ≤ 32
+    less_price n e = grind (arith, nat_tests)

@@ -4,6 +4,8 @@ pub mod Table
 pub mod Paying
 pub mod Lists
 pub mod Grammar
+pub mod Writing
+pub mod Trial
 pub mod Found
 pub mod Completion
 pub mod Standing

@@ -6,7 +6,10 @@ use Rattle.gier_symbol.specs.Texts.{stands_in}
 use Rattle.gier_text.specs.Potential.{potential, is_numbered, IsWithinPotential}
 use Rattle.gier_text.specs.TablesModel.{TablesModel}
 use Rattle.gier_pass3.specs.declared.pass.Pass3.{Pass3}
-use Rattle.gier_tree.specs.Structure.{structure_fault}
+use Rattle.gier_tree.specs.Structure.{structure_fault, IsWritten}
+use Rattle.gier_tree.specs.TextsOf.{text3}
+use Rattle.gier_tree.specs.Trees.{Program}
+use Rattle.gier_pass3.specs.Writing.{Writes}
 use Rattle.gier_pass3.specs.Lists.{HasLists, stack_in, held_in, ready_in, depth, credit, held_by, ready_by}
 use Rattle.gier_pass3.specs.Found.{IsBare, AreFound, HasFound}
 
@@ -77,6 +80,7 @@ pub record IsReady (pass : Pass3) (t : TablesModel) : Type 0 where
   pub few : length t.faults ≤ stops pass.stopped
   pub deep : depth t ≤ 12 * pass.read + 4
   pub within : pass.read ≤ pass.bytes + 1
+  pub owned : pass.owns ≤ 32 * pass.read
   pub limit : pass.bytes ≤ t.limit
   pub small : t.limit ≤ 524288
 
@@ -96,6 +100,7 @@ pub record Stands (pass : Pass3) (t : TablesModel) (read written : List Symbol) 
   pub letters : All (IsFit 3 pass.bytes) written
   pub light : potential 3 written + load pass t ≤ 8 * length read + 2
   pub found : All IsBare read → HasFound pass.stopped t read
+  pub writes : All IsBare read → Writes pass t read written
 
 -- letters of text 2 with small numbers of identifiers, at most one for each byte and one for the end
 pub record IsTextTwo (bytes : ℕ) (list : List Symbol) : Type 0 where
@@ -109,6 +114,7 @@ pub record Relates (pass : Pass3) (t : TablesModel) (read written : List Symbol)
   pub light : IsWithinPotential 3 pass.bytes written
   pub few : length t.faults ≤ 1
   pub found : All IsBare read → AreFound (structure_fault read) read t.faults
+  pub text : All IsBare read → (program : Program) → IsWritten program read → written ≡ text3 program
 
 -- the three lists are there, and empty
 pub record Opens (bytes : ℕ) (t u : TablesModel) : Type 0 where

@@ -4,6 +4,7 @@ ghost use Rattle.std.specs.Prelude.{◌≡◌, ◌≤◌, ◌<◌, ◌+◌, ◌^
 ghost use Rattle.gier_symbol.specs.Symbols.{IsSymbol};
 ghost use Rattle.gier_text.specs.TablesModel.{tables_model};
 ghost use Rattle.gier_text.specs.Outbox.{symbol_at, if_any};
+ghost use Rattle.gier_pass3.specs.Writing.{first_held};
 ghost use Rattle.gier_pass3.specs.Lists.{HasLists, KeepsLists, stack_in, held_in, ready_in, held_by, ready_by};
 
 use gier_symbol::Symbol;
@@ -55,13 +56,24 @@ pub fn first_line(tables: &Tables, name: Option<Symbol>, other: u32) -> u32
     requires lists { HasLists (tables_model tables.now) }
     requires name { IfSome name IsSymbol }
     requires other { other < 2 ^ 24 }
-    ensures { result < 2 ^ 24 }
+    ensures small { result < 2 ^ 24 }
+    ensures value { result ≡ first_held (held_by (tables_model tables.now)) name other }
 {
-    if tables.len(HELD) > 0 {
-        if let Some(symbol) = held_at(tables, 0) {
-            return symbol.line;
-        }
+    if tables.len(HELD) == 0 {
+        return name_line(name, other);
     }
+    match held_at(tables, 0) {
+        Some(symbol) => symbol.line,
+        None => other,
+    }
+}
+
+fn name_line(name: Option<Symbol>, other: u32) -> u32
+    requires name { IfSome name IsSymbol }
+    requires other { other < 2 ^ 24 }
+    ensures small { result < 2 ^ 24 }
+    ensures value { result ≡ first_held [] name other }
+{
     match name {
         Some(symbol) => symbol.line,
         None => other,

@@ -9,7 +9,7 @@ mod rule;
 mod stack;
 mod table;
 
-pub use laws::law_completion;
+pub use laws::{law_completion, law_expression, law_text};
 pub use pass::Pass3;
 
 #[cfg(test)]

@@ -1,5 +1,5 @@
 // The pass: what it keeps, and what it does with a symbol.
-ghost use Rattle.std.specs.Prelude.{◌≡◌, ◌≤◌, ◌<◌, ◌+◌, ◌*◌, ◌^◌, [], ℕ, length, All, IsTrue, true, false, not, Some};
+ghost use Rattle.std.specs.Prelude.{◌≡◌, ◌≤◌, ◌<◌, ◌+◌, ◌*◌, ◌^◌, ◌∷◌, suc, [], ℕ, length, All, IsTrue, true, false, not, Some};
 ghost use Rattle.gier_symbol.specs.Symbols.{IsSymbol};
 ghost use Rattle.gier_symbol.specs.Tags.{number_of};
 ghost use Rattle.gier_symbol.specs.Texts.{stands_in};
@@ -8,7 +8,12 @@ ghost use Rattle.gier_text.specs.TablesModel.{tables_model, fresh};
 ghost use Rattle.gier_pass3.specs.Items.{credit_of, mark_of, mark_symbol, line_by, opened_by};
 ghost use Rattle.gier_tree.specs.Signs.{sign_of, sign_tag};
 ghost use Rattle.gier_pass3.specs.Rules.{cost_of, costs, left_after, price, tag_of, wants_of};
-ghost use Rattle.gier_pass3.specs.Lists.{depth, ready_by, stack_in};
+ghost use Rattle.gier_pass3.specs.Lists.{depth, held_by, ready_by, stack_in};
+ghost use Rattle.gier_pass3.specs.Writing.{Wrote, WrotePassed, WroteMark, WroteTaken, WroteMet, acts_on, act_on, as_role, first_held, hold_label, name_number, release, waits_in, with_owns};
+ghost use Rattle.gier_pass3.specs.declared.rule.Act.TheVariants.{Hold};
+ghost use Rattle.gier_pass3.specs.declared.item.Mark.TheVariants.{Open};
+ghost use Rattle.gier_symbol.specs.ByTag.{sym};
+ghost use Rattle.gier_symbol.specs.declared.tag.Tag.TheVariants.{OwnNumber, TextEnd};
 ghost use Rattle.gier_pass3.specs.Grammar.{AreAbove, HasItems, all_above, wanted_in};
 ghost use Rattle.gier_pass3.specs.Standing.{IsFit, Holds, Moves, Meets, load, IsReady, Steps, Stands, Relates, IsTextTwo, HasRoom, Opens};
 ghost use Rattle.gier_pass3.specs.Found.{Follows, IsBare, faults_of};
@@ -60,6 +65,7 @@ fn name_number(s: Symbol) -> u64
     requires symbol { IsSymbol s }
     ensures small { result < 2 ^ 40 }
     ensures numbered { (bytes : ℕ) → IsTrue (is_numbered 2 bytes s) → result < bytes + 64 }
+    ensures value { result ≡ name_number s }
 {
     if s.tag == Tag::Identifier.number() {
         s.value
@@ -85,6 +91,7 @@ fn symbol_of(mark: Mark, line: u32) -> Symbol
 #[tactic(auto, using(crate::proofs::Loads::role_letter, crate::proofs::Loads::small_number))]
 fn in_role(role: Role, s: Symbol) -> Symbol
     requires symbol { IsSymbol s }
+    ensures value { result ≡ as_role role s }
     ensures fit { (bytes : ℕ) → IsFit 2 bytes s → IsFit 3 bytes result }
     ensures potential { potential_of 3 result.tag ≡ potential_of 3 (number_of (tag_of role)) }
 {
@@ -128,6 +135,8 @@ impl Pass3 {
         ensures told { self.old.stopped ≡ false → (tables_model tables.new).faults ≡ faults_of self.new.stopped self.old.read s.line }
         ensures follows { self.old.stopped ≡ false → IsBare s → HasItems (tables_model tables.old)
             → Follows self.new.stopped s (tables_model tables.old) (tables_model tables.new) }
+        ensures silent { self.old.stopped ≡ true → ready_by (tables_model tables.new) ≡ ready_by (tables_model tables.old) }
+        ensures wrote { self.old.stopped ≡ false → IsBare s → HasItems (tables_model tables.old) → WroteMet (sign_tag (sign_of s)) s self.old (tables_model tables.old) self.new (tables_model tables.new) }
     {
         if !self.stopped {
             if let Some(kind) = Tag::of(s.tag) {
@@ -144,10 +153,14 @@ impl Pass3 {
         requires none { (tables_model tables.old).faults ≡ [] }
         requires going { self.old.stopped ≡ false }
         requires symbol { IsFit 2 self.old.bytes s }
+        requires owns { self.old.owns ≤ 32 * self.old.read }
+        requires within { self.old.read ≤ 524288 }
+        ensures owns { self.new.owns ≤ self.old.owns + 32 }
         ensures meets { Meets self.old self.new (tables_model tables.old) (tables_model tables.new) }
         ensures faults { (tables_model tables.new).faults ≡ faults_of self.new.stopped self.old.read s.line }
         ensures follows { sign_tag (sign_of s) ≡ kind → HasItems (tables_model tables.old)
             → Follows self.new.stopped s (tables_model tables.old) (tables_model tables.new) }
+        ensures wrote { HasItems (tables_model tables.old) → WroteMet kind s self.old (tables_model tables.old) self.new (tables_model tables.new) }
     {
         let mut opened = false;
         while let Some(wanted) = pop(tables) {
@@ -172,9 +185,11 @@ impl Pass3 {
     fn fail(&mut self, line: u32, tables: &mut Tables)
         requires holds { Holds self.old (tables_model tables.old) }
         requires none { (tables_model tables.old).faults ≡ [] }
+        ensures owns { self.new.owns ≡ self.old.owns }
         ensures meets { Meets self.old self.new (tables_model tables.old) (tables_model tables.new) }
         ensures stopped { self.new.stopped ≡ true }
         ensures faults { (tables_model tables.new).faults ≡ faults_of true self.old.read line }
+        ensures ready { ready_by (tables_model tables.new) ≡ ready_by (tables_model tables.old) }
     {
         self.stopped = true;
         tables.add_fault(Fault {
@@ -190,11 +205,14 @@ impl Pass3 {
         requires room { HasRoom (price rule) 12 self.old (tables_model tables.old) }
         requires small { left < 2 ^ 32 }
         requires symbol { IsFit 2 self.old.bytes s }
+        requires owns { self.old.owns + price rule < 2 ^ 32 }
+        ensures owns { self.new.owns ≤ self.old.owns + price rule }
         ensures moves { Moves (price rule) 12 self.old self.new (tables_model tables.old) (tables_model tables.new) }
         ensures read { wanted_in (tables_model tables.new)
             ≡ all_above (wants_of rule) (left_after rule left) (wanted_in (tables_model tables.old)) }
         ensures items { HasItems (tables_model tables.old)
             → AreAbove (wants_of rule) (left_after rule left) (wanted_in (tables_model tables.old)) → HasItems (tables_model tables.new) }
+        ensures wrote { WroteTaken rule left s self.old (tables_model tables.old) self.new (tables_model tables.new) }
     {
         self.apply(rule.acts(), s, tables);
         push_wanted(tables, rule, left);
@@ -207,9 +225,11 @@ impl Pass3 {
         requires holds { Holds self.old (tables_model tables.old) }
         requires room { HasRoom (credit_of item) 0 self.old (tables_model tables.old) }
         requires here { here < 2 ^ 24 }
+        ensures owns { self.new.owns ≡ self.old.owns }
         ensures moves { Moves (credit_of item) 0 self.old self.new (tables_model tables.old) (tables_model tables.new) }
         ensures opened { result ≡ opened_by (mark_of item) opened }
         ensures stack { stack_in (tables_model tables.new) ≡ stack_in (tables_model tables.old) }
+        ensures wrote { WrotePassed item here opened result self.old (tables_model tables.old) self.new (tables_model tables.new) }
     {
         if let Some(mark) = item.mark() {
             return self.write_mark(mark, here, opened, tables);
@@ -227,9 +247,11 @@ impl Pass3 {
         requires holds { Holds self.old (tables_model tables.old) }
         requires room { HasRoom 1 0 self.old (tables_model tables.old) }
         requires here { here < 2 ^ 24 }
+        ensures owns { self.new.owns ≡ self.old.owns }
         ensures moves { Moves 1 0 self.old self.new (tables_model tables.old) (tables_model tables.new) }
         ensures opened { result ≡ opened_by (Some mark) opened }
         ensures stack { stack_in (tables_model tables.new) ≡ stack_in (tables_model tables.old) }
+        ensures wrote { WroteMark mark here opened result self.old (tables_model tables.old) self.new (tables_model tables.new) }
     {
         let line = self.line_of(mark, here, opened);
         self.write(symbol_of(mark, line), tables);
@@ -257,8 +279,11 @@ impl Pass3 {
         requires holds { Holds self.old (tables_model tables.old) }
         requires room { HasRoom (costs acts.now) 0 self.old (tables_model tables.old) }
         requires symbol { IsFit 2 self.old.bytes s }
+        requires owns { self.old.owns + costs acts.now < 2 ^ 32 }
+        ensures owns { self.new.owns ≤ self.old.owns + costs acts.now }
         ensures moves { Moves (costs acts.now) 0 self.old self.new (tables_model tables.old) (tables_model tables.new) }
         ensures stack { stack_in (tables_model tables.new) ≡ stack_in (tables_model tables.old) }
+        ensures wrote { Wrote self.old (tables_model tables.old) self.new (tables_model tables.new) (acts_on acts.now s (waits_in self.old (tables_model tables.old))) }
     {
         for act in acts {
             self.act(*act, s, tables);
@@ -269,8 +294,11 @@ impl Pass3 {
         requires holds { Holds self.old (tables_model tables.old) }
         requires room { HasRoom (cost_of act) 0 self.old (tables_model tables.old) }
         requires symbol { IsFit 2 self.old.bytes s }
+        requires owns { self.old.owns + cost_of act < 2 ^ 32 }
+        ensures owns { self.new.owns ≤ self.old.owns + cost_of act }
         ensures moves { Moves (cost_of act) 0 self.old self.new (tables_model tables.old) (tables_model tables.new) }
         ensures stack { stack_in (tables_model tables.new) ≡ stack_in (tables_model tables.old) }
+        ensures wrote { Wrote self.old (tables_model tables.old) self.new (tables_model tables.new) (act_on act s (waits_in self.old (tables_model tables.old))) }
     {
         match act {
             Act::Open(construct) => self.open_before(construct, s.line, tables),
@@ -290,8 +318,10 @@ impl Pass3 {
         requires holds { Holds self.old (tables_model tables.old) }
         requires room { HasRoom (potential_of 3 s.tag) 0 self.old (tables_model tables.old) }
         requires fit { IsFit 3 self.old.bytes s }
+        ensures owns { self.new.owns ≡ self.old.owns }
         ensures moves { Moves (potential_of 3 s.tag) 0 self.old self.new (tables_model tables.old) (tables_model tables.new) }
         ensures stack { stack_in (tables_model tables.new) ≡ stack_in (tables_model tables.old) }
+        ensures wrote { Wrote self.old (tables_model tables.old) self.new (tables_model tables.new) (λ next. s ∷ next (waits_in self.old (tables_model tables.old))) }
     {
         ready(tables, s);
     }
@@ -300,8 +330,10 @@ impl Pass3 {
         requires holds { Holds self.old (tables_model tables.old) }
         requires room { HasRoom (potential_of 3 s.tag) 0 self.old (tables_model tables.old) }
         requires fit { IsFit 3 self.old.bytes s }
+        ensures owns { self.new.owns ≡ self.old.owns }
         ensures moves { Moves (potential_of 3 s.tag) 0 self.old self.new (tables_model tables.old) (tables_model tables.new) }
         ensures stack { stack_in (tables_model tables.new) ≡ stack_in (tables_model tables.old) }
+        ensures wrote { Wrote self.old (tables_model tables.old) self.new (tables_model tables.new) (act_on Hold s (waits_in self.old (tables_model tables.old))) }
     {
         hold(tables, s);
     }
@@ -310,8 +342,10 @@ impl Pass3 {
     fn release(&mut self, tables: &mut Tables)
         requires holds { Holds self.old (tables_model tables.old) }
         requires room { HasRoom 0 0 self.old (tables_model tables.old) }
+        ensures owns { self.new.owns ≡ self.old.owns }
         ensures moves { Moves 0 0 self.old self.new (tables_model tables.old) (tables_model tables.new) }
         ensures stack { stack_in (tables_model tables.new) ≡ stack_in (tables_model tables.old) }
+        ensures wrote { Wrote self.old (tables_model tables.old) self.new (tables_model tables.new) (release (waits_in self.old (tables_model tables.old))) }
     {
         release_all(tables, self.name);
         self.name = None;
@@ -322,8 +356,10 @@ impl Pass3 {
         requires holds { Holds self.old (tables_model tables.old) }
         requires room { HasRoom 1 0 self.old (tables_model tables.old) }
         requires line { line < 2 ^ 24 }
+        ensures owns { self.new.owns ≡ self.old.owns }
         ensures moves { Moves 1 0 self.old self.new (tables_model tables.old) (tables_model tables.new) }
         ensures stack { stack_in (tables_model tables.new) ≡ stack_in (tables_model tables.old) }
+        ensures wrote { Wrote self.old (tables_model tables.old) self.new (tables_model tables.new) (λ next. mark_symbol (Open construct) (first_held (held_by (tables_model tables.old)) self.old.name line) ∷ next (waits_in self.old (tables_model tables.old))) }
     {
         let first = first_line(tables, self.name, line);
         self.write(symbol_of(Mark::Open(construct), first), tables);
@@ -334,8 +370,11 @@ impl Pass3 {
         requires holds { Holds self.old (tables_model tables.old) }
         requires room { HasRoom 1 0 self.old (tables_model tables.old) }
         requires line { line < 2 ^ 24 }
+        requires owns { self.old.owns + 1 < 2 ^ 32 }
+        ensures owns { self.new.owns ≤ self.old.owns + 1 }
         ensures moves { Moves 1 0 self.old self.new (tables_model tables.old) (tables_model tables.new) }
         ensures stack { stack_in (tables_model tables.new) ≡ stack_in (tables_model tables.old) }
+        ensures wrote { Wrote self.old (tables_model tables.old) self.new (tables_model tables.new) (λ next. sym OwnNumber self.old.owns line ∷ next (with_owns (waits_in self.old (tables_model tables.old)) (suc self.old.owns))) }
     {
         self.write(
             Symbol::new(Tag::OwnNumber, u64::from(self.owns), line),
@@ -349,8 +388,10 @@ impl Pass3 {
         requires holds { Holds self.old (tables_model tables.old) }
         requires room { HasRoom 5 0 self.old (tables_model tables.old) }
         requires line { line < 2 ^ 24 }
+        ensures owns { self.new.owns ≡ self.old.owns }
         ensures moves { Moves 5 0 self.old self.new (tables_model tables.old) (tables_model tables.new) }
         ensures stack { stack_in (tables_model tables.new) ≡ stack_in (tables_model tables.old) }
+        ensures wrote { Wrote self.old (tables_model tables.old) self.new (tables_model tables.new) (λ next. sym TextEnd self.old.owns line ∷ next (waits_in self.old (tables_model tables.old))) }
     {
         self.write(
             Symbol::new(Tag::TextEnd, u64::from(self.owns), line),
@@ -363,8 +404,10 @@ impl Pass3 {
         requires holds { Holds self.old (tables_model tables.old) }
         requires room { HasRoom 1 0 self.old (tables_model tables.old) }
         requires symbol { IsFit 2 self.old.bytes colon }
+        ensures owns { self.new.owns ≡ self.old.owns }
         ensures moves { Moves 1 0 self.old self.new (tables_model tables.old) (tables_model tables.new) }
         ensures stack { stack_in (tables_model tables.new) ≡ stack_in (tables_model tables.old) }
+        ensures wrote { Wrote self.old (tables_model tables.old) self.new (tables_model tables.new) (hold_label self.old.name colon (waits_in self.old (tables_model tables.old))) }
     {
         if let Some(name) = self.name {
             self.name = None;

@@ -1,11 +1,12 @@
 // The stack of what is wanted next, a list of the tables. The next item is last.
-ghost use Rattle.std.specs.Prelude.{◌≡◌, ◌≤◌, ◌<◌, ◌+◌, ◌*◌, ◌/◌, ◌^◌, ◌%◌, length, IfSome, Some};
+ghost use Rattle.std.specs.Prelude.{◌≡◌, ◌≤◌, ◌<◌, ◌+◌, ◌*◌, ◌/◌, ◌^◌, ◌%◌, ◌∷◌, length, IfSome, Some};
 ghost use Rattle.gier_text.specs.TablesModel.{tables_model};
 ghost use Rattle.gier_pass3.specs.Items.{credit_at, credit_of, credits};
 ghost use Rattle.gier_pass3.specs.Rules.{wants_of, left_after};
 ghost use Rattle.gier_pass3.specs.declared.item.Item.{Item};
 ghost use Rattle.gier_pass3.specs.Grammar.{HasItems, IsAbove, AreAbove, Pops, all_above, item_at, wanted_above, wanted_in, word_of};
 ghost use Rattle.gier_pass3.specs.Lists.{HasLists, KeepsLists, stack_in, held_in, ready_in, depth, credit};
+ghost use Rattle.gier_pass3.specs.Writing.{PopsEntry, above, entries_in, entry};
 
 use crate::item::Item;
 use crate::rule::Rule;
@@ -59,6 +60,7 @@ pub fn pop(tables: &mut Tables) -> Option<Wanted>
     ensures depth { depth (tables_model tables.new) ≤ depth (tables_model tables.old) }
     ensures credit { credit (tables_model tables.new) ≤ credit (tables_model tables.old) }
     ensures read { HasItems (tables_model tables.old) → Pops (wanted_in (tables_model tables.old)) result (tables_model tables.new) }
+    ensures entries { HasItems (tables_model tables.old) → PopsEntry (entries_in (tables_model tables.old)) result (tables_model tables.new) }
 {
     let depth = tables.len(STACK);
     if depth == 0 {
@@ -81,6 +83,7 @@ pub fn push_wanted(tables: &mut Tables, rule: Rule, left: u64)
     ensures depth { depth (tables_model tables.new) ≡ depth (tables_model tables.old) + length (wants_of rule) }
     ensures credit { credit (tables_model tables.new) ≡ credit (tables_model tables.old) + credits (wants_of rule) }
     ensures read { wanted_in (tables_model tables.new) ≡ all_above (wants_of rule) (left_after rule left) (wanted_in (tables_model tables.old)) }
+    ensures entries { entries_in (tables_model tables.new) ≡ above (wants_of rule) (left_after rule left) (entries_in (tables_model tables.old)) }
     ensures items { HasItems (tables_model tables.old)
         → AreAbove (wants_of rule) (left_after rule left) (wanted_in (tables_model tables.old)) → HasItems (tables_model tables.new) }
 {
@@ -128,6 +131,7 @@ pub fn push(tables: &mut Tables, item: Item, left: u64)
     ensures depth { depth (tables_model tables.new) ≡ depth (tables_model tables.old) + 1 }
     ensures credit { credit (tables_model tables.new) ≡ credit (tables_model tables.old) + credit_of item }
     ensures read { wanted_in (tables_model tables.new) ≡ wanted_above item left (wanted_in (tables_model tables.old)) }
+    ensures entries { entries_in (tables_model tables.new) ≡ entry item left ∷ entries_in (tables_model tables.old) }
     ensures items { HasItems (tables_model tables.old) → IsAbove item (wanted_in (tables_model tables.old)) → HasItems (tables_model tables.new) }
 {
     let word = fold(item, left);

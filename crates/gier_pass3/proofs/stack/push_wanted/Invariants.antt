@@ -4,6 +4,7 @@ use Rattle.gier_pass3.specs.Items.{credits}
 use Rattle.gier_pass3.specs.Rules.{wants_of}
 use Rattle.gier_pass3.specs.Grammar.{HasItems, AreAbove, all_above, wanted_in}
 use Rattle.gier_pass3.specs.Lists.{KeepsLists, held_in, ready_in, depth, credit}
+use Rattle.gier_pass3.specs.Writing.{above, entries_in}
 use Rattle.gier_pass3.proofs.stack.push_wanted.Given as goal
 
 abbrev pub invariant-loop-at : goal.invariant-loop-at
@@ -16,6 +17,7 @@ invariant-loop-at l = record {
   ready : ready_in (tables_model l.tables) ≡ ready_in (tables_model l.fn.tables);
   deep : depth (tables_model l.tables) + l.at ≡ depth (tables_model l.fn.tables) + length l.items;
   read : wanted_in (tables_model l.tables) ≡ all_above (drop l.at l.items) l.left (wanted_in (tables_model l.fn.tables));
+  stacked : entries_in (tables_model l.tables) ≡ above (drop l.at l.items) l.left (entries_in (tables_model l.fn.tables));
   entries : HasItems (tables_model l.fn.tables) → AreAbove (drop l.at l.items) l.left (wanted_in (tables_model l.fn.tables)) → HasItems (tables_model l.tables);
   paid : credit (tables_model l.tables) ≡ credit (tables_model l.fn.tables) + credits (drop l.at l.items);
 }

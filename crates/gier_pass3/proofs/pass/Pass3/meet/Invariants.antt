@@ -1,6 +1,7 @@
-use Rattle.std.proofs.Common.{◌≡◌, ◌≤◌}
+use Rattle.std.proofs.Common.{◌≡◌, ◌≤◌, ◌++◌, false}
 use Rattle.gier_text.specs.TablesModel.{tables_model}
-use Rattle.gier_pass3.specs.Lists.{depth}
+use Rattle.gier_pass3.specs.Lists.{depth, ready_by}
+use Rattle.gier_pass3.specs.Writing.{Go, meet, entries_in, waits_in}
 use Rattle.gier_pass3.specs.Grammar.{HasItems}
 use Rattle.gier_pass3.specs.Found.{Passes}
 use Rattle.gier_pass3.specs.Standing.{Holds, load}
@@ -12,6 +13,8 @@ invariant-loop-wanted l = record {
   light : load l.self (tables_model l.tables) ≤ load l.fn.self (tables_model l.fn.tables);
   deep : depth (tables_model l.tables) ≤ depth (tables_model l.fn.tables);
   passed : HasItems (tables_model l.fn.tables) → Passes l.fn.kind (tables_model l.fn.tables) (tables_model l.tables);
+  owned : l.self.owns ≡ l.fn.self.owns;
+  wrote : HasItems (tables_model l.fn.tables) → (next : Go) → ready_by (tables_model l.fn.tables) ++ meet l.fn.kind l.fn.s next (entries_in (tables_model l.fn.tables)) false (waits_in l.fn.self (tables_model l.fn.tables)) ≡ ready_by (tables_model l.tables) ++ meet l.fn.kind l.fn.s next (entries_in (tables_model l.tables)) l.opened (waits_in l.self (tables_model l.tables));
   bytes : l.self.bytes ≡ l.fn.self.bytes;
   read : l.self.read ≡ l.fn.self.read;
   stopped : l.self.stopped ≡ l.fn.self.stopped;
