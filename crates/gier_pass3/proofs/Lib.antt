@@ -17,8 +17,3 @@ pub mod Joined
 pub mod Spelling
 pub mod SpelledRows
 pub mod Spelled
-pub mod Operands
-pub mod Expressions
-pub mod Parts
-pub mod Stating
-pub mod Programs

@@ -2,7 +2,8 @@ use Rattle.std.proofs.Common.{◌≡◌, ◌+◌, ◌-◌, ◌*◌, ◌∙◌, �
 use Rattle.std.proofs.lemmas.List.{get_or-set_same}
 use Rattle.gier_text.specs.TablesModel.{TablesModel, tables_model}
 use Rattle.gier_text.specs.Lists.{TableList, list_at, no_list, cut_to}
-use Rattle.gier_pass3.specs.Items.{credit_at, credit_in}
+use Rattle.gier_grammar.specs.GrammarSymbols.{credit_at}
+use Rattle.gier_pass3.specs.Lists.{credit_in}
 use Rattle.gier_pass3.specs.Lists.{stack_in}
 use Rattle.gier_pass3.proofs.Credit.{credit_cut, paid_from}
 use Rattle.gier_pass3.proofs.StackWords.{stack_words}

@@ -2,7 +2,7 @@ use Rattle.std.proofs.Common.{◌+◌, ◌∙◌, [], ◌∷◌, ap, arith}
 use Rattle.std.proofs.lemmas.List.{get_or-set_same}
 use Rattle.gier_text.specs.TablesModel.{TablesModel, tables_model}
 use Rattle.gier_text.specs.Lists.{TableList, list_at, no_list, with_entry}
-use Rattle.gier_pass3.specs.Items.{credit_in}
+use Rattle.gier_pass3.specs.Lists.{credit_in}
 use Rattle.gier_pass3.specs.Lists.{stack_in}
 use Rattle.gier_pass3.proofs.Credit.{credit_pushed}
 use Rattle.gier_pass3.proofs.StackWords.{stack_words}
