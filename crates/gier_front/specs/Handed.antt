@@ -10,7 +10,7 @@ use Rattle.gier_text.specs.Potential.{is_numbered, potential, potential_of, IsWi
 use Rattle.gier_pass2.specs.declared.pass.Pass2.{Pass2}
 use Rattle.gier_pass2.specs.Letters.{IsWritable}
 use Rattle.gier_pass2.specs.Invariant.{IsTextOne, Relates}
-use Rattle.gier_pass3.specs.Standing.{IsTextTwo as IsMeantForThree}
+use Rattle.gier_pass3.specs.Invariant.{IsTextTwo as IsMeantForThree}
 use Rattle.gier_pass5.specs.declared.pass.Pass5.{Pass5}
 use Rattle.gier_pass5.specs.Invariant.{Relates as RelatesFive}
 use Rattle.gier_front.specs.Passes.{IsTextTwo}
