@@ -104,7 +104,8 @@ impl State {
         ensures lists { Keeps self.now.bytes (tables_model tables.old) (tables_model tables.new) }
         ensures value { result ≡ order_with (known (tables_model tables.old) (number_in s.value)) s }
         ensures labels { Knows (20 * self.now.bytes + 64) (tables_model tables.new) (λ label.
-            with_label_used (known (tables_model tables.old) (number_in s.value)) (number_in s.value) label (known (tables_model tables.old) label)) }
+            with_label_used (known (tables_model tables.old) (number_in s.value)) (number_in s.value) label
+            (known (tables_model tables.old) label)) }
         ensures needs { needs_of (tables_model tables.new) ≡ needs_of (tables_model tables.old) }
         ensures written { IsWritable result }
     {
