@@ -129,7 +129,7 @@ module _ (limit : ℕ) where
   abbrev pub function_run : Next → (own cell : ℕ) → (Bindings → Bindings) → Statement → (home : Env) → Computation ℤ
   function_run next own cell formals body home live s =
       then_do (body_run next formals (Returns own cell NoBindings) body home live s)
-          (λ done s1. Gives (value_at (CellAt cell) s1) s1)
+      (λ done s1. Gives (value_at (CellAt cell) s1) s1)
 
   abbrev pub procedure_run : Next → (own : ℕ) → Kind → (Bindings → Bindings) → Statement → (home : Env) → Computation ℤ
   procedure_run next own kind.IntegerProcedure formals body home live s =

@@ -88,4 +88,4 @@ module _ (limit : ℕ) where
       let own : List ℕ = labels whole.statement in
       let env : Env = Inside (with_entities 0 (quantities own) NoBindings) (Inside standard_bindings Outermost) in
       observation permitted (executed permitted whole.line whole.statement (entities_from 0 own) env
-            (initial_state unread permitted))
+      (initial_state unread permitted))

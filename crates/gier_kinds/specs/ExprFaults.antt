@@ -96,13 +96,13 @@ abbrev mutual
   faults_implication at (OneDisjunction d) = faults_disjunction at d
   faults_implication at (Implies i l d) =
       faults_implication at i ++ operands_fault OfBoolean (type_implication at i) (type_disjunction at d) l
-          ++ faults_disjunction at d
+      ++ faults_disjunction at d
 
   pub faults_disjunction : Scopes → Disjunction → TypeFaults
   faults_disjunction at (OneConjunction c) = faults_conjunction at c
   faults_disjunction at (Either d l c) =
       faults_disjunction at d ++ operands_fault OfBoolean (type_disjunction at d) (type_conjunction at c) l
-          ++ faults_conjunction at c
+      ++ faults_conjunction at c
 
   pub faults_conjunction : Scopes → Conjunction → TypeFaults
   faults_conjunction at (OneNegation n) = faults_negation at n
@@ -149,7 +149,7 @@ abbrev mutual
       let wanted = wanted_of place d in
       use_fault (may_be_called place d) x
       ++ on_symbol l (falls (is_other_count (known_formals d) (suc (count_actuals more))) WrongCount
-            ++ actual_fault (actual_fits at wanted a))
+      ++ actual_fault (actual_fits at wanted a))
       ++ faults_actual at a ++ faults_actuals at (wanted_behind wanted) 1 more
 
   pub faults_actual : Scopes → Actual → TypeFaults
@@ -169,7 +169,7 @@ abbrev mutual
       let d = at x.number in
       use_fault (is_known (allowed d.kind)) x
       ++ on_symbol l (falls (is_other_number d.kind d.count (suc (count_exprs es))) WrongSubscripts
-            ++ subscript_fault (type_expr at e))
+      ++ subscript_fault (type_expr at e))
       ++ faults_expr at e ++ faults_subscripts at 1 es
 
   -- behind so many subscripts

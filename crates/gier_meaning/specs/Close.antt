@@ -64,7 +64,7 @@ abbrev mutual
   close_in m (Compound ss) = Compound (close_statements m ss)
   close_in m (Block line ds ss) =
       Block line (close_declarations (map_without (identifiers_of (of_block ds ss)) m) ds)
-          (close_statements (map_without (identifiers_of (of_block ds ss)) m) ss)
+      (close_statements (map_without (identifiers_of (of_block ds ss)) m) ss)
   close_in m (Assign lefts e) = Assign (close_lefts m lefts) (close m.used e)
   close_in m (GoTo line e) = GoTo line (close m.used e)
   close_in m (CallOf e) = CallOf (close m.used e)
@@ -87,4 +87,4 @@ abbrev mutual
       Switch line (close_name m.used name) (close_all m.used elements) (close_declarations m ds)
   close_declarations m (Procedure line kind own name formals body ds) =
       Procedure line kind own (close_name m.used name) formals
-          (close_in (hidden_in_body kind own (of_procedure formals body) m) body) (close_declarations m ds)
+      (close_in (hidden_in_body kind own (of_procedure formals body) m) body) (close_declarations m ds)

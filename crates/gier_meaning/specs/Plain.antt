@@ -205,7 +205,7 @@ abbrev mutual
   declaration (tree.DeclareSwitch line name becomes e es) rest = Switch line (name_of name) (MoreExprs (expr e) (exprs es)) rest
   declaration (tree.DeclareProcedure (tree.MkHeading type line name fs semicolon listing specifications) body) rest =
       Procedure (heading_line type line) (procedure_kind type) name.number (name_of name) (formals fs listing specifications)
-          (statement body) rest
+      (statement body) rest
 
   pub declarations : tree.Declarations → Declarations
   declarations tree.NoDeclarations = NoDeclarations

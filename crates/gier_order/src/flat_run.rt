@@ -18,10 +18,10 @@ pub fn law_flat_run()
 /// With enough moves the flat run is over, with more it is over alike, and what it is over with is what it gives.
 pub fn law_flat_ends()
     ensures ends { (code : List ℕ) (size : ℕ) (s : State) → (final : Final)
-          × (exec (one code size) (enough code s) s ≡ Over final) }
+        × (exec (one code size) (enough code s) s ≡ Over final) }
     ensures longer { (code : List ℕ) (size k n : ℕ) → k ≤ n → (s : State) (final : Final) → exec (one code size) k s ≡ Over final
-          → exec (one code size) n s ≡ Over final }
+        → exec (one code size) n s ≡ Over final }
     ensures gives { (code : List ℕ) (start : ℕ) (input : List ℕ) (steps size moves : ℕ) (final : Final)
-          → exec (one code size) moves (machine_at_start start input steps) ≡ Over final → flat code start input steps size
-          ≡ report_of steps final }
+        → exec (one code size) moves (machine_at_start start input steps) ≡ Over final → flat code start input steps size
+        ≡ report_of steps final }
 {}

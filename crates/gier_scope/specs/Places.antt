@@ -24,7 +24,7 @@ abbrev pub in_bound : List Scope → Name → ScopeFaults
 in_bound [] x = []
 in_bound (block ∷ outer) x =
     fault_where (declares block x.number) LocalInBound x.line
-        ++ fault_where (not (is_declared (block ∷ outer) x.number)) NotDeclared x.line
+    ++ fault_where (not (is_declared (block ∷ outer) x.number)) NotDeclared x.line
 
 abbrev pub in_bounds : List Scope → List Name → ScopeFaults
 in_bounds scopes xs = flat_map (in_bound scopes) xs

@@ -21,40 +21,40 @@ use Rattle.gier_tree.specs.Object.{text8_of, object_of}
 abbrev pub code_sums : Program
 code_sums =
     MkProgram ([])
-      (MkBlock 1 (DeclareType (record { type = IntegerType; line = 1 }) (MkNames (at 8 1) (record { comma = 1; name = (at 9 1) }
-          ∷ []))) 1
-        (MoreDeclarations (DeclareType (record { type = BooleanType; line = 1 }) (MkNames (at 10 1) ([]))) 1 NoDeclarations)
-        (OneUnconditional (MkUnconditional ([]) (Assign (record { left = OneName (at 8 2); becomes = 2 })
-          (record { left = OneName (at 9 2); becomes = 2 } ∷ []) (OneSimple (OneImplication (OneDisjunction (OneConjunction
-          (OneNegation (OneRelation (OneArithmetic (Summed (Signed Subtract 2 (OneFactor (OnePrimary (Numeral 1 2)))) Add 2
-          (Multiplied (OneFactor (OnePrimary (Numeral 2 2))) Multiply 2 (OnePrimary (Bracketed 2
-          (OneSimple (OneImplication (OneDisjunction (OneConjunction (OneNegation (OneRelation (OneArithmetic (Summed
-            (OneTerm (OneFactor (OnePrimary (OneCall (Alone (at 8 2)))))) Subtract 2 (OneFactor (OnePrimary
-            (Numeral 16777216 2))))))))))) 2))))))))))))))
-        (MoreStatements 3 (OneUnconditional (MkUnconditional ([]) (Assign (record { left = OneName (at 10 3); becomes = 3 }) ([])
-            (OneSimple (Equivalent
-            (OneImplication (Implies
-              (OneDisjunction (Either
-                (OneConjunction (Both
-                (OneNegation (Negated 3 (Compared (OneTerm (OneFactor (OnePrimary (OneCall (Alone (at 8 3)))))) LessThan 3
-                (OneTerm (OneFactor (OnePrimary (OneCall (Alone (at 9 3))))))))) 3 (OneRelation (OneArithmetic (OneTerm (OneFactor
-                (OnePrimary (Logical true 3)))))))) 3 (OneNegation (OneRelation (OneArithmetic (OneTerm (OneFactor (OnePrimary
-                (OneCall (Alone (at 10 3))))))))))) 3 (OneConjunction (OneNegation (OneRelation (OneArithmetic (OneTerm (OneFactor
-              (OnePrimary (Logical false 3)))))))))) 3 (OneDisjunction (OneConjunction (OneNegation (OneRelation (OneArithmetic
-            (OneTerm (OneFactor (OnePrimary (OneCall (Alone (at 10 3)))))))))))))))) (MoreStatements 3
-          (OneUnconditional (MkUnconditional ([]) (CallStatement (WithActuals (at 0 3) 3
-            (OneExpr (IfExpr 3 (only (OneCall (Alone (at 10 3)))) 3
-              (OneImplication (OneDisjunction (OneConjunction (OneNegation (OneRelation (OneArithmetic (OneTerm (OneFactor (Raised
-                (OnePrimary (OneCall (Alone (at 8 3)))) 3 (Numeral 2 3)))))))))) 3 (OneSimple (OneImplication (OneDisjunction
-              (OneConjunction (OneNegation (OneRelation (OneArithmetic (OneTerm (Multiplied
-              (OneFactor (OnePrimary (OneCall (Alone (at 9 3))))) Divide 3 (OnePrimary (Numeral 3 3))))))))))))) NoActuals 3))))
-          (MoreStatements 3 (OneUnconditional (MkUnconditional ([]) (CallStatement (WithActuals (at 1 3) 3
-            (AString 3 (record { value = 97; line = 3 } ∷ record { value = 98; line = 3 } ∷ record { value = 99; line = 3 }
-                ∷ record { value = 100; line = 3 } ∷ record { value = 101; line = 3 } ∷ record { value = 102; line = 3 }
-                ∷ record { value = 103; line = 3 } ∷ []) 3) NoActuals 3)))) (MoreStatements 3
-          (OneUnconditional (MkUnconditional ([]) (CallStatement (Alone (at 2 3))))) (MoreStatements 3
-          (OneUnconditional (MkUnconditional ([]) (Assign (record { left = OneName (at 8 3); becomes = 3 }) ([]) (only (OneCall
-            (WithActuals (at 6 3) 3 (OneExpr (only (OneCall (Alone (at 4 3))))) NoActuals 3)))))) NoStatements))))) 3) 3
+    (MkBlock 1 (DeclareType (record { type = IntegerType; line = 1 }) (MkNames (at 8 1) (record { comma = 1; name = (at 9 1) }
+    ∷ []))) 1
+    (MoreDeclarations (DeclareType (record { type = BooleanType; line = 1 }) (MkNames (at 10 1) ([]))) 1 NoDeclarations)
+    (OneUnconditional (MkUnconditional ([]) (Assign (record { left = OneName (at 8 2); becomes = 2 })
+    (record { left = OneName (at 9 2); becomes = 2 } ∷ []) (OneSimple (OneImplication (OneDisjunction (OneConjunction
+    (OneNegation (OneRelation (OneArithmetic (Summed (Signed Subtract 2 (OneFactor (OnePrimary (Numeral 1 2)))) Add 2
+    (Multiplied (OneFactor (OnePrimary (Numeral 2 2))) Multiply 2 (OnePrimary (Bracketed 2
+    (OneSimple (OneImplication (OneDisjunction (OneConjunction (OneNegation (OneRelation (OneArithmetic (Summed
+    (OneTerm (OneFactor (OnePrimary (OneCall (Alone (at 8 2)))))) Subtract 2 (OneFactor (OnePrimary
+    (Numeral 16777216 2))))))))))) 2))))))))))))))
+    (MoreStatements 3 (OneUnconditional (MkUnconditional ([]) (Assign (record { left = OneName (at 10 3); becomes = 3 }) ([])
+    (OneSimple (Equivalent
+    (OneImplication (Implies
+    (OneDisjunction (Either
+    (OneConjunction (Both
+    (OneNegation (Negated 3 (Compared (OneTerm (OneFactor (OnePrimary (OneCall (Alone (at 8 3)))))) LessThan 3
+    (OneTerm (OneFactor (OnePrimary (OneCall (Alone (at 9 3))))))))) 3 (OneRelation (OneArithmetic (OneTerm (OneFactor
+    (OnePrimary (Logical true 3)))))))) 3 (OneNegation (OneRelation (OneArithmetic (OneTerm (OneFactor (OnePrimary
+    (OneCall (Alone (at 10 3))))))))))) 3 (OneConjunction (OneNegation (OneRelation (OneArithmetic (OneTerm (OneFactor
+    (OnePrimary (Logical false 3)))))))))) 3 (OneDisjunction (OneConjunction (OneNegation (OneRelation (OneArithmetic
+    (OneTerm (OneFactor (OnePrimary (OneCall (Alone (at 10 3)))))))))))))))) (MoreStatements 3
+    (OneUnconditional (MkUnconditional ([]) (CallStatement (WithActuals (at 0 3) 3
+    (OneExpr (IfExpr 3 (only (OneCall (Alone (at 10 3)))) 3
+    (OneImplication (OneDisjunction (OneConjunction (OneNegation (OneRelation (OneArithmetic (OneTerm (OneFactor (Raised
+    (OnePrimary (OneCall (Alone (at 8 3)))) 3 (Numeral 2 3)))))))))) 3 (OneSimple (OneImplication (OneDisjunction
+    (OneConjunction (OneNegation (OneRelation (OneArithmetic (OneTerm (Multiplied
+    (OneFactor (OnePrimary (OneCall (Alone (at 9 3))))) Divide 3 (OnePrimary (Numeral 3 3))))))))))))) NoActuals 3))))
+    (MoreStatements 3 (OneUnconditional (MkUnconditional ([]) (CallStatement (WithActuals (at 1 3) 3
+    (AString 3 (record { value = 97; line = 3 } ∷ record { value = 98; line = 3 } ∷ record { value = 99; line = 3 }
+    ∷ record { value = 100; line = 3 } ∷ record { value = 101; line = 3 } ∷ record { value = 102; line = 3 }
+    ∷ record { value = 103; line = 3 } ∷ []) 3) NoActuals 3)))) (MoreStatements 3
+    (OneUnconditional (MkUnconditional ([]) (CallStatement (Alone (at 2 3))))) (MoreStatements 3
+    (OneUnconditional (MkUnconditional ([]) (Assign (record { left = OneName (at 8 3); becomes = 3 }) ([]) (only (OneCall
+    (WithActuals (at 6 3) 3 (OneExpr (only (OneCall (Alone (at 4 3))))) NoActuals 3)))))) NoStatements))))) 3) 3
 
 abbrev pub code_sums_7 : List Symbol
 code_sums_7 = row 124 4311744515 1 ∷ row 124 133177540614 1 ∷ row 135 33554435 2 ∷ row 134 6 2 ∷ row 135 33554436 2 ∷ row 134 7 2
@@ -94,33 +94,35 @@ code_sums_object = 4311744515 ∷ 133177540619 ∷ 30098325507 ∷ 25769803782 �
 abbrev pub code_loops : Program
 code_loops = MkProgram (record { name = (at 8 1); colon = 1 } ∷ [])
     (MkBlock 1 (DeclareType (record { type = IntegerType; line = 2 }) (MkNames (at 9 2) ([]))) 2 NoDeclarations
-      (OneLoop (MkLoop (record { name = (at 10 3); colon = 3 } ∷ []) 3 (at 9 3) 3 (OneValue (only (Numeral 1 3)))
-        (record { comma = 3; turns = (StepUntil (only (Numeral 2 3)) 3 (only (OneCall (Alone (at 9 3)))) 3 (only (Numeral 3 3))) }
-          ∷ record { comma = 3;
-            turns = (WhileTrue (OneSimple (OneImplication (OneDisjunction (OneConjunction (OneNegation (OneRelation (OneArithmetic
-              (Summed (OneTerm (OneFactor (OnePrimary (OneCall (Alone (at 9 4)))))) Add 4 (OneFactor (OnePrimary
-              (Numeral 1 4))))))))))) 4 (OneSimple (OneImplication (OneDisjunction (OneConjunction (OneNegation (OneRelation
-              (Compared (OneTerm (OneFactor (OnePrimary (OneCall (Alone (at 9 4)))))) LessThan 4 (OneTerm (OneFactor (OnePrimary
-              (Numeral 4 4)))))))))))) } ∷ record { comma = 4; turns = (OneValue (only (Numeral 7 4))) } ∷ []) 4 (OneUnconditional
-        (MkUnconditional (record { name = (at 11 5); colon = 5 } ∷ []) (Assign (record { left = OneName (at 9 5); becomes = 5 })
-        ([]) (OneSimple (OneImplication (OneDisjunction (OneConjunction (OneNegation (OneRelation (OneArithmetic (Summed
-        (OneTerm (OneFactor (OnePrimary (OneCall (Alone (at 9 5)))))) Add 5 (OneFactor (OnePrimary (Numeral 1 5))))))))))))))))
-      (MoreStatements 5
-        (OneConditional (IfElse ([]) 6 (OneSimple (OneImplication (OneDisjunction (OneConjunction (OneNegation (OneRelation
-            (Compared (OneTerm (OneFactor (OnePrimary (OneCall (Alone (at 9 6)))))) EqualTo 6 (OneTerm (OneFactor (OnePrimary
-            (Numeral 1 6))))))))))) 6 (MkUnconditional ([]) (Jump 6 (only (OneCall (Alone (at 10 6)))))) 7 (OneUnconditional
-          (MkUnconditional ([]) (Jump 7 (only (OneCall (Alone (at 8 7))))))))) (MoreStatements 7
-        (OneConditional (IfThen ([]) 8 (OneSimple (OneImplication (OneDisjunction (OneConjunction (OneNegation (OneRelation
-            (Compared (OneTerm (OneFactor (OnePrimary (OneCall (Alone (at 9 8)))))) AtLeast 8 (OneTerm (OneFactor (OnePrimary
-            (Numeral 2 8))))))))))) 8 (MkUnconditional ([]) (Assign (record { left = OneName (at 9 8); becomes = 8 }) ([]) (only
-          (OneCall (Alone (at 9 8)))))))) (MoreStatements 8
-        (OneUnconditional (MkUnconditional ([]) (OneGroup (MkCompound 8
-          (OneUnconditional (MkUnconditional (record { name = (at 12 8); colon = 8 } ∷ []) (Jump 8 (IfExpr 8
-            (OneSimple (OneImplication (OneDisjunction (OneConjunction (OneNegation (OneRelation (Compared
-              (OneTerm (OneFactor (OnePrimary (OneCall (Alone (at 9 8)))))) EqualTo 8 (OneTerm (OneFactor (OnePrimary
-              (Numeral 1 8))))))))))) 8 (OneImplication (OneDisjunction (OneConjunction (OneNegation (OneRelation (OneArithmetic
-              (OneTerm (OneFactor (OnePrimary (Bracketed 8 (only (OneCall (Alone (at 12 8)))) 8)))))))))) 8 (only (OneCall (Alone
-            (at 8 8)))))))) NoStatements 8)))) NoStatements))) 8) 8
+    (OneLoop (MkLoop (record { name = (at 10 3); colon = 3 } ∷ []) 3 (at 9 3) 3 (OneValue (only (Numeral 1 3)))
+    (record { comma = 3; turns = (StepUntil (only (Numeral 2 3)) 3 (only (OneCall (Alone (at 9 3)))) 3 (only (Numeral 3 3))) }
+    ∷ record {
+      comma = 3;
+      turns = (WhileTrue (OneSimple (OneImplication (OneDisjunction (OneConjunction (OneNegation (OneRelation (OneArithmetic
+          (Summed (OneTerm (OneFactor (OnePrimary (OneCall (Alone (at 9 4)))))) Add 4 (OneFactor (OnePrimary
+          (Numeral 1 4))))))))))) 4 (OneSimple (OneImplication (OneDisjunction (OneConjunction (OneNegation (OneRelation
+          (Compared (OneTerm (OneFactor (OnePrimary (OneCall (Alone (at 9 4)))))) LessThan 4 (OneTerm (OneFactor (OnePrimary
+          (Numeral 4 4))))))))))));
+    } ∷ record { comma = 4; turns = (OneValue (only (Numeral 7 4))) } ∷ []) 4 (OneUnconditional
+    (MkUnconditional (record { name = (at 11 5); colon = 5 } ∷ []) (Assign (record { left = OneName (at 9 5); becomes = 5 })
+    ([]) (OneSimple (OneImplication (OneDisjunction (OneConjunction (OneNegation (OneRelation (OneArithmetic (Summed
+    (OneTerm (OneFactor (OnePrimary (OneCall (Alone (at 9 5)))))) Add 5 (OneFactor (OnePrimary (Numeral 1 5))))))))))))))))
+    (MoreStatements 5
+    (OneConditional (IfElse ([]) 6 (OneSimple (OneImplication (OneDisjunction (OneConjunction (OneNegation (OneRelation
+    (Compared (OneTerm (OneFactor (OnePrimary (OneCall (Alone (at 9 6)))))) EqualTo 6 (OneTerm (OneFactor (OnePrimary
+    (Numeral 1 6))))))))))) 6 (MkUnconditional ([]) (Jump 6 (only (OneCall (Alone (at 10 6)))))) 7 (OneUnconditional
+    (MkUnconditional ([]) (Jump 7 (only (OneCall (Alone (at 8 7))))))))) (MoreStatements 7
+    (OneConditional (IfThen ([]) 8 (OneSimple (OneImplication (OneDisjunction (OneConjunction (OneNegation (OneRelation
+    (Compared (OneTerm (OneFactor (OnePrimary (OneCall (Alone (at 9 8)))))) AtLeast 8 (OneTerm (OneFactor (OnePrimary
+    (Numeral 2 8))))))))))) 8 (MkUnconditional ([]) (Assign (record { left = OneName (at 9 8); becomes = 8 }) ([]) (only
+    (OneCall (Alone (at 9 8)))))))) (MoreStatements 8
+    (OneUnconditional (MkUnconditional ([]) (OneGroup (MkCompound 8
+    (OneUnconditional (MkUnconditional (record { name = (at 12 8); colon = 8 } ∷ []) (Jump 8 (IfExpr 8
+    (OneSimple (OneImplication (OneDisjunction (OneConjunction (OneNegation (OneRelation (Compared
+    (OneTerm (OneFactor (OnePrimary (OneCall (Alone (at 9 8)))))) EqualTo 8 (OneTerm (OneFactor (OnePrimary
+    (Numeral 1 8))))))))))) 8 (OneImplication (OneDisjunction (OneConjunction (OneNegation (OneRelation (OneArithmetic
+    (OneTerm (OneFactor (OnePrimary (Bracketed 8 (only (OneCall (Alone (at 12 8)))) 8)))))))))) 8 (only (OneCall (Alone
+    (at 8 8)))))))) NoStatements 8)))) NoStatements))) 8) 8
 
 abbrev pub code_loops_7 : List Symbol
 code_loops_7 = row 124 4311744515 1 ∷ row 121 0 1 ∷ row 124 133177540612 1 ∷ row 121 1 1 ∷ row 135 33554435 3 ∷ row 134 5 3
@@ -176,38 +178,43 @@ code_loops_object = 4311744515 ∷ 133177540615 ∷ 30098325507 ∷ 25769803781 
 abbrev pub code_arrays : Program
 code_arrays =
     MkProgram ([]) (MkBlock 1 (DeclareType (record { type = IntegerType; line = 1 }) (MkNames (at 8 1) ([]))) 1 NoDeclarations
-        (OneUnconditional (MkUnconditional ([]) (OneGroup (MkBlock 1
-          (DeclareArrays (record { type = BooleanType; line = 1 }) 1
-            (MkSegment (MkNames (at 9 1) (record { comma = 1; name = (at 10 1) } ∷ [])) 1
-              (MkPair (only (Numeral 1 1)) 1 (only (Numeral 2 1)))
-              (record
-                { comma = 1;
-                pair = (MkPair (only (OneCall (Alone (at 8 1)))) 1 (OneSimple (OneImplication (OneDisjunction (OneConjunction
-                (OneNegation (OneRelation (OneArithmetic (Summed (OneTerm (OneFactor (OnePrimary (OneCall (Alone (at 8 1)))))) Add
-                1 (OneFactor (OnePrimary (Numeral 1 1)))))))))))) } ∷ []) 1) (record
-            { comma = 1;
-              segment = (MkSegment (MkNames (at 11 2) ([])) 2
-                (MkPair (OneSimple (OneImplication (OneDisjunction (OneConjunction (OneNegation (OneRelation (OneArithmetic
-                (Signed Subtract 2 (OneFactor (OnePrimary (Numeral 1 2))))))))))) 2 (only (Numeral 2 2))) ([]) 2) } ∷ [])) 2
-          (MoreDeclarations (DeclareSwitch 2 (at 12 2) 2 (only (OneCall (Alone (at 13 2)))) (MoreExprs 2
-              (IfExpr 2
-                (only (OneElement (Subscripted (at 9 2) 2 (only (Numeral 1 2))
-                (MoreExprs 2 (only (OneCall (Alone (at 8 2)))) NoExprs) 2))) 2
-                (OneImplication (OneDisjunction (OneConjunction (OneNegation (OneRelation (OneArithmetic (OneTerm (OneFactor
-                (OnePrimary (OneElement (Subscripted (at 12 2) 2 (only (Numeral 1 2)) NoExprs 2))))))))))) 2 (only (OneCall (Alone
-                (at 14 2))))) NoExprs)) 2 NoDeclarations)
-          (OneUnconditional (MkUnconditional (record { name = (at 13 3); colon = 3 } ∷ []) (Assign
-            (record { left = LeftElement
-              (Subscripted (at 9 3) 3 (only (Numeral 1 3)) (MoreExprs 3 (only (Numeral 2 3)) NoExprs) 3); becomes = 3 })
-            (record { left = LeftElement (Subscripted (at 11 3) 3 (only (OneCall (Alone (at 8 3)))) NoExprs 3); becomes = 3 }
-              ∷ []) (only (OneElement (Subscripted (at 10 3) 3
-            (OneSimple (OneImplication (OneDisjunction (OneConjunction (OneNegation (OneRelation (OneArithmetic (Summed
-              (OneTerm (OneFactor (OnePrimary (OneCall (Alone (at 8 3)))))) Add 3 (OneFactor (OnePrimary (Numeral 1 3)))))))))))
-            (MoreExprs 3 (only (Numeral 2 3)) NoExprs) 3))))))
-          (MoreStatements 3 (OneUnconditional (MkUnconditional (record { name = (at 14 4); colon = 4 } ∷ []) (Jump 4 (only
-              (OneElement (Subscripted (at 12 4) 4 (OneSimple (OneImplication (OneDisjunction (OneConjunction (OneNegation
-                (OneRelation (OneArithmetic (OneTerm (Multiplied (OneFactor (OnePrimary (OneCall (Alone (at 8 4))))) Multiply 4
-                (OnePrimary (Numeral 2 4))))))))))) NoExprs 4)))))) NoStatements) 4)))) NoStatements 4) 4
+    (OneUnconditional (MkUnconditional ([]) (OneGroup (MkBlock 1
+    (DeclareArrays (record { type = BooleanType; line = 1 }) 1
+    (MkSegment (MkNames (at 9 1) (record { comma = 1; name = (at 10 1) } ∷ [])) 1
+    (MkPair (only (Numeral 1 1)) 1 (only (Numeral 2 1)))
+    (record {
+      comma = 1;
+      pair = (MkPair (only (OneCall (Alone (at 8 1)))) 1 (OneSimple (OneImplication (OneDisjunction (OneConjunction
+          (OneNegation (OneRelation (OneArithmetic (Summed (OneTerm (OneFactor (OnePrimary (OneCall (Alone (at 8 1)))))) Add
+          1 (OneFactor (OnePrimary (Numeral 1 1))))))))))));
+    } ∷ []) 1) (record {
+      comma = 1;
+      segment = (MkSegment (MkNames (at 11 2) ([])) 2
+          (MkPair (OneSimple (OneImplication (OneDisjunction (OneConjunction (OneNegation (OneRelation (OneArithmetic
+          (Signed Subtract 2 (OneFactor (OnePrimary (Numeral 1 2))))))))))) 2 (only (Numeral 2 2))) ([]) 2);
+    } ∷ [])) 2
+    (MoreDeclarations (DeclareSwitch 2 (at 12 2) 2 (only (OneCall (Alone (at 13 2)))) (MoreExprs 2
+    (IfExpr 2
+    (only (OneElement (Subscripted (at 9 2) 2 (only (Numeral 1 2))
+    (MoreExprs 2 (only (OneCall (Alone (at 8 2)))) NoExprs) 2))) 2
+    (OneImplication (OneDisjunction (OneConjunction (OneNegation (OneRelation (OneArithmetic (OneTerm (OneFactor
+    (OnePrimary (OneElement (Subscripted (at 12 2) 2 (only (Numeral 1 2)) NoExprs 2))))))))))) 2 (only (OneCall (Alone
+    (at 14 2))))) NoExprs)) 2 NoDeclarations)
+    (OneUnconditional (MkUnconditional (record { name = (at 13 3); colon = 3 } ∷ []) (Assign
+    (record {
+      left = LeftElement
+          (Subscripted (at 9 3) 3 (only (Numeral 1 3)) (MoreExprs 3 (only (Numeral 2 3)) NoExprs) 3);
+      becomes = 3;
+    })
+    (record { left = LeftElement (Subscripted (at 11 3) 3 (only (OneCall (Alone (at 8 3)))) NoExprs 3); becomes = 3 }
+    ∷ []) (only (OneElement (Subscripted (at 10 3) 3
+    (OneSimple (OneImplication (OneDisjunction (OneConjunction (OneNegation (OneRelation (OneArithmetic (Summed
+    (OneTerm (OneFactor (OnePrimary (OneCall (Alone (at 8 3)))))) Add 3 (OneFactor (OnePrimary (Numeral 1 3)))))))))))
+    (MoreExprs 3 (only (Numeral 2 3)) NoExprs) 3))))))
+    (MoreStatements 3 (OneUnconditional (MkUnconditional (record { name = (at 14 4); colon = 4 } ∷ []) (Jump 4 (only
+    (OneElement (Subscripted (at 12 4) 4 (OneSimple (OneImplication (OneDisjunction (OneConjunction (OneNegation
+    (OneRelation (OneArithmetic (OneTerm (Multiplied (OneFactor (OnePrimary (OneCall (Alone (at 8 4))))) Multiply 4
+    (OnePrimary (Numeral 2 4))))))))))) NoExprs 4)))))) NoStatements) 4)))) NoStatements 4) 4
 
 abbrev pub code_arrays_7 : List Symbol
 code_arrays_7 = row 124 4311744515 1 ∷ row 124 133177540612 1 ∷ row 124 133194317843 1 ∷ row 132 1 1 ∷ row 134 19 1 ∷ row 132 2 1
@@ -255,67 +262,75 @@ code_arrays_object = 4311744515 ∷ 133177540612 ∷ 133194317848 ∷ 1717986918
 -- procedures, and actuals of each kind
 abbrev pub code_calls : Program
 code_calls = MkProgram ([]) (MkBlock 1 (DeclareType (record { type = IntegerType; line = 1 }) (MkNames (at 8 1) ([]))) 1
-      (MoreDeclarations
-        (DeclareProcedure (MkHeading (Some (record { type = IntegerType; line = 1 })) 1 (at 9 1) NoFormals 1 NoValues ([]))
-          (OneUnconditional (MkUnconditional ([]) (Assign (record { left = OneName (at 9 1); becomes = 1 }) ([]) (only
-          (Numeral 1 1)))))) 1 (MoreDeclarations
-        (DeclareArrays (record { type = BooleanType; line = 1 }) 1
-          (MkSegment (MkNames (at 10 1) ([])) 1 (MkPair (only (Numeral 1 1)) 1 (only (Numeral 2 1))) ([]) 1) ([])) 1
-        (MoreDeclarations (DeclareSwitch 1 (at 11 1) 1 (only (OneCall (Alone (at 12 1)))) NoExprs) 1 (MoreDeclarations
-        (DeclareProcedure
-          (MkHeading None 2 (at 13 2)
-            (FormalList 2 (MkNames (at 14 2) (record { comma = 2; name = (at 15 2) } ∷ record { comma = 2; name = (at 16 2) }
-              ∷ record { comma = 2; name = (at 17 2) } ∷ record { comma = 2; name = (at 18 2) }
-              ∷ record { comma = 2; name = (at 19 2) } ∷ record { comma = 2; name = (at 20 2) }
-              ∷ record { comma = 2; name = (at 21 2) } ∷ [])) 2) 2 (ValueList 2 (MkNames (at 14 2) ([])) 2) (record
-            { specifier = ValueSpec (record { type = IntegerType; line = 2 });
-              names = (MkNames (at 14 2) (record { comma = 2; name = (at 15 2) } ∷ [])); semicolon = 2 }
-            ∷ record { specifier = ArraySpec (record { type = BooleanType; line = 2 }) 2; names = (MkNames (at 16 2) ([]));
-              semicolon = 2 } ∷ record { specifier = LabelSpec 2; names = (MkNames (at 17 2) ([])); semicolon = 2 }
-            ∷ record { specifier = SwitchSpec 2; names = (MkNames (at 18 2) ([])); semicolon = 2 }
-            ∷ record { specifier = StringSpec 3; names = (MkNames (at 19 3) ([])); semicolon = 3 }
-            ∷ record { specifier = ProcedureSpec 3; names = (MkNames (at 20 3) ([])); semicolon = 3 }
-            ∷ record { specifier = FunctionSpec (record { type = IntegerType; line = 3 }) 3; names = (MkNames (at 21 3) ([]));
-              semicolon = 3 } ∷ [])) (OneUnconditional (MkUnconditional ([]) (OneGroup (MkCompound 4
-          (OneUnconditional (MkUnconditional ([]) (Assign (record { left = OneName (at 15 4); becomes = 4 }) ([]) (OneSimple
-            (OneImplication (OneDisjunction (OneConjunction (OneNegation (OneRelation (OneArithmetic (Summed
-            (Summed (OneTerm (OneFactor (OnePrimary (OneCall (Alone (at 14 4)))))) Add 4 (OneFactor (OnePrimary (OneCall (Alone
-              (at 15 4)))))) Add 4 (OneFactor (OnePrimary (OneCall (Alone (at 21 4))))))))))))))))
-          (MoreStatements 4 (OneUnconditional (MkUnconditional ([]) (Jump 4 (only (OneCall (Alone (at 17 4)))))))
-            (MoreStatements 4 (OneUnconditional (MkUnconditional ([]) (Jump 4 (only (OneElement (Subscripted (at 18 4) 4
-              (only (Numeral 1 4)) NoExprs 4)))))) (MoreStatements 4
-            (OneUnconditional (MkUnconditional ([]) (Assign
-              (record { left = LeftElement (Subscripted (at 16 4) 4 (only (Numeral 1 4)) NoExprs 4); becomes = 4 }) ([]) (only
-              (OneElement (Subscripted (at 16 4) 4 (only (Numeral 2 4)) NoExprs 4)))))) (MoreStatements 4
-            (OneUnconditional (MkUnconditional ([]) (CallStatement (WithActuals (at 1 4) 4
-              (OneExpr (only (OneCall (Alone (at 19 4))))) NoActuals 4)))) (MoreStatements 4
-            (OneUnconditional (MkUnconditional ([]) (CallStatement (Alone (at 20 4))))) (MoreStatements 4
-            (OneUnconditional (MkUnconditional ([]) (CallStatement (WithActuals (at 13 4) 4
-              (OneExpr (only (OneCall (Alone (at 14 4)))))
-              (MoreActuals 4 (OneExpr (only (OneCall (Alone (at 15 4))))) (MoreActuals 4
-              (OneExpr (only (OneCall (Alone (at 16 4))))) (MoreActuals 4 (OneExpr (only (OneCall (Alone (at 17 4)))))
-              (MoreActuals 4 (OneExpr (only (OneCall (Alone (at 18 4))))) (MoreActuals 4
-              (OneExpr (only (OneCall (Alone (at 19 4))))) (MoreActuals 4 (OneExpr (only (OneCall (Alone (at 20 4)))))
-              (MoreActuals 4 (OneExpr (only (OneCall (Alone (at 21 4))))) NoActuals))))))) 4)))) NoStatements)))))) 4))))) 4
-        (MoreDeclarations (DeclareProcedure (MkHeading None 5 (at 22 5) NoFormals 5 NoValues ([])) (OneUnconditional
-          (MkUnconditional ([]) Dummy))) 5 NoDeclarations)))))
-      (OneUnconditional (MkUnconditional ([]) (CallStatement (WithActuals (at 13 6) 6
-        (OneExpr (OneSimple (OneImplication (OneDisjunction (OneConjunction (OneNegation (OneRelation (OneArithmetic (Summed
-          (OneTerm (OneFactor (OnePrimary (OneCall (Alone (at 8 6)))))) Add 6 (OneFactor (OnePrimary (Numeral 1 6))))))))))))
-        (MoreActuals 6 (OneExpr (only (OneCall (Alone (at 9 6))))) (MoreActuals 6 (OneExpr (only (OneCall (Alone (at 10 6)))))
-          (MoreActuals 6 (OneExpr (only (OneCall (Alone (at 12 6))))) (MoreActuals 6 (OneExpr (only (OneCall (Alone (at 11 6)))))
-          (MoreActuals 6 (AString 6 (record { value = 121; line = 6 } ∷ record { value = 122; line = 6 } ∷ []) 6) (MoreActuals 6
-          (OneExpr (only (OneCall (Alone (at 22 6))))) (MoreActuals 6 (OneExpr (only (OneCall (Alone (at 9 6))))) NoActuals)))))))
-        6))))
-      (MoreStatements 6 (OneUnconditional (MkUnconditional ([]) (CallStatement (WithActuals (at 13 7) 7
-          (OneExpr (only (OneCall (Alone (at 8 7))))) (MoreActuals 7 (OneExpr (only (OneCall (Alone (at 8 7))))) (MoreActuals 7
-            (OneExpr (only (OneCall (Alone (at 10 7))))) (MoreActuals 7 (OneExpr (only (OneCall (Alone (at 12 7)))))
-            (MoreActuals 7 (OneExpr (only (OneCall (Alone (at 11 7))))) (MoreActuals 7 (AString 7 ([]) 7) (MoreActuals 7
-            (OneExpr (only (OneCall (Alone (at 22 7))))) (MoreActuals 7
-            (OneExpr (only (OneCall (Alone (at 9 7))))) NoActuals))))))) 7)))) (MoreStatements 7
-        (OneUnconditional (MkUnconditional ([]) (Assign (record { left = OneName (at 8 7); becomes = 7 }) ([]) (only (OneCall
-          (Alone (at 9 7))))))) (MoreStatements 7
-        (OneUnconditional (MkUnconditional (record { name = (at 12 7); colon = 7 } ∷ []) Dummy)) NoStatements))) 7) 7
+    (MoreDeclarations
+    (DeclareProcedure (MkHeading (Some (record { type = IntegerType; line = 1 })) 1 (at 9 1) NoFormals 1 NoValues ([]))
+    (OneUnconditional (MkUnconditional ([]) (Assign (record { left = OneName (at 9 1); becomes = 1 }) ([]) (only
+    (Numeral 1 1)))))) 1 (MoreDeclarations
+    (DeclareArrays (record { type = BooleanType; line = 1 }) 1
+    (MkSegment (MkNames (at 10 1) ([])) 1 (MkPair (only (Numeral 1 1)) 1 (only (Numeral 2 1))) ([]) 1) ([])) 1
+    (MoreDeclarations (DeclareSwitch 1 (at 11 1) 1 (only (OneCall (Alone (at 12 1)))) NoExprs) 1 (MoreDeclarations
+    (DeclareProcedure
+    (MkHeading None 2 (at 13 2)
+    (FormalList 2 (MkNames (at 14 2) (record { comma = 2; name = (at 15 2) } ∷ record { comma = 2; name = (at 16 2) }
+    ∷ record { comma = 2; name = (at 17 2) } ∷ record { comma = 2; name = (at 18 2) }
+    ∷ record { comma = 2; name = (at 19 2) } ∷ record { comma = 2; name = (at 20 2) }
+    ∷ record { comma = 2; name = (at 21 2) } ∷ [])) 2) 2 (ValueList 2 (MkNames (at 14 2) ([])) 2) (record {
+      specifier = ValueSpec (record { type = IntegerType; line = 2 });
+      names = (MkNames (at 14 2) (record { comma = 2; name = (at 15 2) } ∷ []));
+      semicolon = 2;
+    }
+    ∷ record {
+      specifier = ArraySpec (record { type = BooleanType; line = 2 }) 2;
+      names = (MkNames (at 16 2) ([]));
+      semicolon = 2;
+    } ∷ record { specifier = LabelSpec 2; names = (MkNames (at 17 2) ([])); semicolon = 2 }
+    ∷ record { specifier = SwitchSpec 2; names = (MkNames (at 18 2) ([])); semicolon = 2 }
+    ∷ record { specifier = StringSpec 3; names = (MkNames (at 19 3) ([])); semicolon = 3 }
+    ∷ record { specifier = ProcedureSpec 3; names = (MkNames (at 20 3) ([])); semicolon = 3 }
+    ∷ record {
+      specifier = FunctionSpec (record { type = IntegerType; line = 3 }) 3;
+      names = (MkNames (at 21 3) ([]));
+      semicolon = 3;
+    } ∷ [])) (OneUnconditional (MkUnconditional ([]) (OneGroup (MkCompound 4
+    (OneUnconditional (MkUnconditional ([]) (Assign (record { left = OneName (at 15 4); becomes = 4 }) ([]) (OneSimple
+    (OneImplication (OneDisjunction (OneConjunction (OneNegation (OneRelation (OneArithmetic (Summed
+    (Summed (OneTerm (OneFactor (OnePrimary (OneCall (Alone (at 14 4)))))) Add 4 (OneFactor (OnePrimary (OneCall (Alone
+    (at 15 4)))))) Add 4 (OneFactor (OnePrimary (OneCall (Alone (at 21 4))))))))))))))))
+    (MoreStatements 4 (OneUnconditional (MkUnconditional ([]) (Jump 4 (only (OneCall (Alone (at 17 4)))))))
+    (MoreStatements 4 (OneUnconditional (MkUnconditional ([]) (Jump 4 (only (OneElement (Subscripted (at 18 4) 4
+    (only (Numeral 1 4)) NoExprs 4)))))) (MoreStatements 4
+    (OneUnconditional (MkUnconditional ([]) (Assign
+    (record { left = LeftElement (Subscripted (at 16 4) 4 (only (Numeral 1 4)) NoExprs 4); becomes = 4 }) ([]) (only
+    (OneElement (Subscripted (at 16 4) 4 (only (Numeral 2 4)) NoExprs 4)))))) (MoreStatements 4
+    (OneUnconditional (MkUnconditional ([]) (CallStatement (WithActuals (at 1 4) 4
+    (OneExpr (only (OneCall (Alone (at 19 4))))) NoActuals 4)))) (MoreStatements 4
+    (OneUnconditional (MkUnconditional ([]) (CallStatement (Alone (at 20 4))))) (MoreStatements 4
+    (OneUnconditional (MkUnconditional ([]) (CallStatement (WithActuals (at 13 4) 4
+    (OneExpr (only (OneCall (Alone (at 14 4)))))
+    (MoreActuals 4 (OneExpr (only (OneCall (Alone (at 15 4))))) (MoreActuals 4
+    (OneExpr (only (OneCall (Alone (at 16 4))))) (MoreActuals 4 (OneExpr (only (OneCall (Alone (at 17 4)))))
+    (MoreActuals 4 (OneExpr (only (OneCall (Alone (at 18 4))))) (MoreActuals 4
+    (OneExpr (only (OneCall (Alone (at 19 4))))) (MoreActuals 4 (OneExpr (only (OneCall (Alone (at 20 4)))))
+    (MoreActuals 4 (OneExpr (only (OneCall (Alone (at 21 4))))) NoActuals))))))) 4)))) NoStatements)))))) 4))))) 4
+    (MoreDeclarations (DeclareProcedure (MkHeading None 5 (at 22 5) NoFormals 5 NoValues ([])) (OneUnconditional
+    (MkUnconditional ([]) Dummy))) 5 NoDeclarations)))))
+    (OneUnconditional (MkUnconditional ([]) (CallStatement (WithActuals (at 13 6) 6
+    (OneExpr (OneSimple (OneImplication (OneDisjunction (OneConjunction (OneNegation (OneRelation (OneArithmetic (Summed
+    (OneTerm (OneFactor (OnePrimary (OneCall (Alone (at 8 6)))))) Add 6 (OneFactor (OnePrimary (Numeral 1 6))))))))))))
+    (MoreActuals 6 (OneExpr (only (OneCall (Alone (at 9 6))))) (MoreActuals 6 (OneExpr (only (OneCall (Alone (at 10 6)))))
+    (MoreActuals 6 (OneExpr (only (OneCall (Alone (at 12 6))))) (MoreActuals 6 (OneExpr (only (OneCall (Alone (at 11 6)))))
+    (MoreActuals 6 (AString 6 (record { value = 121; line = 6 } ∷ record { value = 122; line = 6 } ∷ []) 6) (MoreActuals 6
+    (OneExpr (only (OneCall (Alone (at 22 6))))) (MoreActuals 6 (OneExpr (only (OneCall (Alone (at 9 6))))) NoActuals)))))))
+    6))))
+    (MoreStatements 6 (OneUnconditional (MkUnconditional ([]) (CallStatement (WithActuals (at 13 7) 7
+    (OneExpr (only (OneCall (Alone (at 8 7))))) (MoreActuals 7 (OneExpr (only (OneCall (Alone (at 8 7))))) (MoreActuals 7
+    (OneExpr (only (OneCall (Alone (at 10 7))))) (MoreActuals 7 (OneExpr (only (OneCall (Alone (at 12 7)))))
+    (MoreActuals 7 (OneExpr (only (OneCall (Alone (at 11 7))))) (MoreActuals 7 (AString 7 ([]) 7) (MoreActuals 7
+    (OneExpr (only (OneCall (Alone (at 22 7))))) (MoreActuals 7
+    (OneExpr (only (OneCall (Alone (at 9 7))))) NoActuals))))))) 7)))) (MoreStatements 7
+    (OneUnconditional (MkUnconditional ([]) (Assign (record { left = OneName (at 8 7); becomes = 7 }) ([]) (only (OneCall
+    (Alone (at 9 7))))))) (MoreStatements 7
+    (OneUnconditional (MkUnconditional (record { name = (at 12 7); colon = 7 } ∷ []) Dummy)) NoStatements))) 7) 7
 
 abbrev pub code_calls_7 : List Symbol
 code_calls_7 = row 124 4311744515 1 ∷ row 124 133177540616 1 ∷ row 122 115972505600 1 ∷ row 121 0 1 ∷ row 124 150374187014 1
@@ -413,41 +428,53 @@ code_calls_object = 4311744515 ∷ 133177540632 ∷ 115964117002 ∷ 15037418701
 -- calls of formal procedures with actuals
 abbrev pub code_formals : Program
 code_formals = MkProgram ([]) (MkBlock 1 (DeclareType (record { type = IntegerType; line = 1 }) (MkNames (at 8 1) ([]))) 1
-      (MoreDeclarations
-        (DeclareArrays (record { type = BooleanType; line = 1 }) 1
-          (MkSegment (MkNames (at 9 1) ([])) 1 (MkPair (only (Numeral 1 1)) 1 (only (Numeral 2 1))) ([]) 1) ([])) 1
-        (MoreDeclarations (DeclareSwitch 1 (at 10 1) 1 (only (OneCall (Alone (at 11 1)))) NoExprs) 1 (MoreDeclarations
-        (DeclareProcedure (MkHeading (Some (record { type = BooleanType; line = 2 })) 2 (at 12 2) NoFormals 2 NoValues ([]))
-          (OneUnconditional (MkUnconditional ([]) (Assign (record { left = OneName (at 12 2); becomes = 2 }) ([]) (only
-          (Logical true 2)))))) 2 (MoreDeclarations
-        (DeclareProcedure
-          (MkHeading None 3 (at 13 3) (FormalList 3 (MkNames (at 14 3) (record { comma = 3; name = (at 15 3) } ∷ [])) 3) 3
-            (ValueList 3 (MkNames (at 14 3) ([])) 3) (record { specifier = ValueSpec (record { type = IntegerType; line = 3 });
-              names = (MkNames (at 14 3) ([])); semicolon = 3 }
-            ∷ record { specifier = FunctionSpec (record { type = BooleanType; line = 3 }) 3; names = (MkNames (at 15 3) ([]));
-              semicolon = 3 } ∷ [])) (OneUnconditional (MkUnconditional ([]) Dummy))) 3 (MoreDeclarations
-        (DeclareProcedure
-          (MkHeading None 4 (at 16 4)
-            (FormalList 4 (MkNames (at 15 4) (record { comma = 4; name = (at 17 4) } ∷ record { comma = 4; name = (at 18 4) }
-              ∷ [])) 4) 4 NoValues (record { specifier = ProcedureSpec 4;
-              names = (MkNames (at 15 4) (record { comma = 4; name = (at 18 4) } ∷ [])); semicolon = 4 }
-            ∷ record { specifier = ValueSpec (record { type = IntegerType; line = 4 }); names = (MkNames (at 17 4) ([]));
-              semicolon = 4 } ∷ [])) (OneUnconditional (MkUnconditional ([]) (OneGroup (MkCompound 5
-          (OneUnconditional (MkUnconditional ([]) (CallStatement (WithActuals (at 15 5) 5 (OneExpr (only (Numeral 1 5)))
-            (MoreActuals 5 (OneExpr (only (OneCall (Alone (at 17 5))))) (MoreActuals 5 (OneExpr (only (OneCall (Alone (at 8 5)))))
-              (MoreActuals 5 (OneExpr (only (OneElement (Subscripted (at 9 5) 5 (only (Numeral 1 5)) NoExprs 5)))) (MoreActuals 5
-              (OneExpr (only (OneCall (Alone (at 12 5))))) (MoreActuals 5 (OneExpr (only (OneCall (Alone (at 11 5)))))
-              (MoreActuals 5 (OneExpr (only (OneCall (Alone (at 9 5))))) (MoreActuals 5
-              (OneExpr (only (OneCall (Alone (at 10 5))))) (MoreActuals 5 (AString 5 (record { value = 97; line = 5 } ∷ []) 5)
-              (MoreActuals 5 (OneExpr (only (OneCall (Alone (at 18 5))))) (MoreActuals 5
-              (OneExpr (only (Bracketed 5 (only (OneCall (Alone (at 12 5)))) 5))) (MoreActuals 5
-              (OneExpr (only (OneCall (Alone (at 4 5))))) NoActuals))))))))))) 5))))
-          (MoreStatements 5 (OneUnconditional (MkUnconditional ([]) (CallStatement (WithActuals (at 15 6) 6
-              (OneExpr (only (OneCall (Alone (at 13 6))))) NoActuals 6)))) NoStatements) 6))))) 6 NoDeclarations)))))
-      (OneUnconditional (MkUnconditional ([]) (CallStatement (WithActuals (at 16 7) 7 (OneExpr (only (OneCall (Alone (at 13 7)))))
-        (MoreActuals 7 (OneExpr (only (Numeral 1 7))) (MoreActuals 7 (OneExpr (only (OneCall (Alone (at 16 7))))) NoActuals))
-        7))))
-      (MoreStatements 7 (OneUnconditional (MkUnconditional (record { name = (at 11 7); colon = 7 } ∷ []) Dummy)) NoStatements) 7)
+    (MoreDeclarations
+    (DeclareArrays (record { type = BooleanType; line = 1 }) 1
+    (MkSegment (MkNames (at 9 1) ([])) 1 (MkPair (only (Numeral 1 1)) 1 (only (Numeral 2 1))) ([]) 1) ([])) 1
+    (MoreDeclarations (DeclareSwitch 1 (at 10 1) 1 (only (OneCall (Alone (at 11 1)))) NoExprs) 1 (MoreDeclarations
+    (DeclareProcedure (MkHeading (Some (record { type = BooleanType; line = 2 })) 2 (at 12 2) NoFormals 2 NoValues ([]))
+    (OneUnconditional (MkUnconditional ([]) (Assign (record { left = OneName (at 12 2); becomes = 2 }) ([]) (only
+    (Logical true 2)))))) 2 (MoreDeclarations
+    (DeclareProcedure
+    (MkHeading None 3 (at 13 3) (FormalList 3 (MkNames (at 14 3) (record { comma = 3; name = (at 15 3) } ∷ [])) 3) 3
+    (ValueList 3 (MkNames (at 14 3) ([])) 3) (record {
+      specifier = ValueSpec (record { type = IntegerType; line = 3 });
+      names = (MkNames (at 14 3) ([]));
+      semicolon = 3;
+    }
+    ∷ record {
+      specifier = FunctionSpec (record { type = BooleanType; line = 3 }) 3;
+      names = (MkNames (at 15 3) ([]));
+      semicolon = 3;
+    } ∷ [])) (OneUnconditional (MkUnconditional ([]) Dummy))) 3 (MoreDeclarations
+    (DeclareProcedure
+    (MkHeading None 4 (at 16 4)
+    (FormalList 4 (MkNames (at 15 4) (record { comma = 4; name = (at 17 4) } ∷ record { comma = 4; name = (at 18 4) }
+    ∷ [])) 4) 4 NoValues (record {
+      specifier = ProcedureSpec 4;
+      names = (MkNames (at 15 4) (record { comma = 4; name = (at 18 4) } ∷ []));
+      semicolon = 4;
+    }
+    ∷ record {
+      specifier = ValueSpec (record { type = IntegerType; line = 4 });
+      names = (MkNames (at 17 4) ([]));
+      semicolon = 4;
+    } ∷ [])) (OneUnconditional (MkUnconditional ([]) (OneGroup (MkCompound 5
+    (OneUnconditional (MkUnconditional ([]) (CallStatement (WithActuals (at 15 5) 5 (OneExpr (only (Numeral 1 5)))
+    (MoreActuals 5 (OneExpr (only (OneCall (Alone (at 17 5))))) (MoreActuals 5 (OneExpr (only (OneCall (Alone (at 8 5)))))
+    (MoreActuals 5 (OneExpr (only (OneElement (Subscripted (at 9 5) 5 (only (Numeral 1 5)) NoExprs 5)))) (MoreActuals 5
+    (OneExpr (only (OneCall (Alone (at 12 5))))) (MoreActuals 5 (OneExpr (only (OneCall (Alone (at 11 5)))))
+    (MoreActuals 5 (OneExpr (only (OneCall (Alone (at 9 5))))) (MoreActuals 5
+    (OneExpr (only (OneCall (Alone (at 10 5))))) (MoreActuals 5 (AString 5 (record { value = 97; line = 5 } ∷ []) 5)
+    (MoreActuals 5 (OneExpr (only (OneCall (Alone (at 18 5))))) (MoreActuals 5
+    (OneExpr (only (Bracketed 5 (only (OneCall (Alone (at 12 5)))) 5))) (MoreActuals 5
+    (OneExpr (only (OneCall (Alone (at 4 5))))) NoActuals))))))))))) 5))))
+    (MoreStatements 5 (OneUnconditional (MkUnconditional ([]) (CallStatement (WithActuals (at 15 6) 6
+    (OneExpr (only (OneCall (Alone (at 13 6))))) NoActuals 6)))) NoStatements) 6))))) 6 NoDeclarations)))))
+    (OneUnconditional (MkUnconditional ([]) (CallStatement (WithActuals (at 16 7) 7 (OneExpr (only (OneCall (Alone (at 13 7)))))
+    (MoreActuals 7 (OneExpr (only (Numeral 1 7))) (MoreActuals 7 (OneExpr (only (OneCall (Alone (at 16 7))))) NoActuals))
+    7))))
+    (MoreStatements 7 (OneUnconditional (MkUnconditional (record { name = (at 11 7); colon = 7 } ∷ []) Dummy)) NoStatements) 7)
     7
 
 abbrev pub code_formals_7 : List Symbol
@@ -551,21 +578,21 @@ code_formals_object = 4311744515 ∷ 133177540622 ∷ 17179869185 ∷ 2576980378
 abbrev pub code_own : Program
 code_own =
     MkProgram ([])
-      (MkBlock 1 (DeclareOwn 1 (record { type = IntegerType; line = 1 }) (MkNames (at 8 1) (record { comma = 1; name = (at 9 1) }
-          ∷ []))) 1
-        (MoreDeclarations
-          (DeclareOwnArrays 1 (record { type = BooleanType; line = 1 }) 1
-            (MkFixed (MkNames (at 10 1) ([])) 1 (MkFixedPair (Unsigned 1 1) 1 (Unsigned 2 1))
-              (MoreFurther 1 (MkFixedPair (WithSign Subtract 1 3 1) 1 (WithSign Add 1 4 1)) NoFurther) 1) ([])) 1
-          (MoreDeclarations (DeclareProcedure (MkHeading None 2 (at 11 2) NoFormals 2 NoValues ([])) (OneUnconditional
-            (MkUnconditional ([]) (OneGroup (MkBlock 2 (DeclareOwn 2 (record { type = BooleanType; line = 2 }) (MkNames (at 9 2)
-              ([]))) 2 NoDeclarations
-            (OneUnconditional (MkUnconditional ([]) (Assign (record { left = OneName (at 9 2); becomes = 2 }) ([]) (only
-              (OneElement (Subscripted (at 10 2) 2 (only (Numeral 1 2)) (MoreExprs 2 (only (Numeral 2 2)) NoExprs) 2))))))
-            NoStatements 2))))) 2 NoDeclarations))
-        (OneUnconditional (MkUnconditional ([]) (Assign (record { left = OneName (at 8 3); becomes = 3 }) ([]) (only (OneCall
-          (Alone (at 9 3)))))))
-        (MoreStatements 3 (OneUnconditional (MkUnconditional ([]) (CallStatement (Alone (at 11 3))))) NoStatements) 3) 3
+    (MkBlock 1 (DeclareOwn 1 (record { type = IntegerType; line = 1 }) (MkNames (at 8 1) (record { comma = 1; name = (at 9 1) }
+    ∷ []))) 1
+    (MoreDeclarations
+    (DeclareOwnArrays 1 (record { type = BooleanType; line = 1 }) 1
+    (MkFixed (MkNames (at 10 1) ([])) 1 (MkFixedPair (Unsigned 1 1) 1 (Unsigned 2 1))
+    (MoreFurther 1 (MkFixedPair (WithSign Subtract 1 3 1) 1 (WithSign Add 1 4 1)) NoFurther) 1) ([])) 1
+    (MoreDeclarations (DeclareProcedure (MkHeading None 2 (at 11 2) NoFormals 2 NoValues ([])) (OneUnconditional
+    (MkUnconditional ([]) (OneGroup (MkBlock 2 (DeclareOwn 2 (record { type = BooleanType; line = 2 }) (MkNames (at 9 2)
+    ([]))) 2 NoDeclarations
+    (OneUnconditional (MkUnconditional ([]) (Assign (record { left = OneName (at 9 2); becomes = 2 }) ([]) (only
+    (OneElement (Subscripted (at 10 2) 2 (only (Numeral 1 2)) (MoreExprs 2 (only (Numeral 2 2)) NoExprs) 2))))))
+    NoStatements 2))))) 2 NoDeclarations))
+    (OneUnconditional (MkUnconditional ([]) (Assign (record { left = OneName (at 8 3); becomes = 3 }) ([]) (only (OneCall
+    (Alone (at 9 3)))))))
+    (MoreStatements 3 (OneUnconditional (MkUnconditional ([]) (CallStatement (Alone (at 11 3))))) NoStatements) 3) 3
 
 abbrev pub code_own_7 : List Symbol
 code_own_7 = row 124 4311744515 1 ∷ row 124 133177540620 1 ∷ row 132 1 1 ∷ row 134 12 1 ∷ row 132 2 1 ∷ row 134 13 1 ∷ row 132 3 1

@@ -95,7 +95,7 @@ logical_number false = 0
 abbrev pub choice : (line : ℕ) → (test so otherwise : Code) → Code
 choice line test so otherwise level w st go =
     test level w st (λ s. new s (λ x s1. with_label OFalse 0 x line s1 (λ s2. so level w s2 (λ s3. new s3 (λ y s4.
-          with_label OJump 0 y line s4 (λ s5. define x s5 (λ s6. otherwise level w s6 (λ s7. define y s7 go))))))))
+    with_label OJump 0 y line s4 (λ s5. define x s5 (λ s6. otherwise level w s6 (λ s7. define y s7 go))))))))
 
 -- the address of a variable, a formal, or a function's value
 abbrev pub address_of : Placed → (line : ℕ) → State → Following → List Symbol
@@ -134,7 +134,7 @@ subscripts_code line (c ∷ cs) level w st go =
 abbrev pub element_code : Placed → (line : ℕ) → List Code → Code
 element_code at line cs level w st go =
     array_of at line st (λ s. order OKeep 0 w line s (λ s1. subscripts_code line cs level (w + 1) s1 (λ s2.
-        order OIndex (length cs) w line s2 go)))
+    order OIndex (length cs) w line s2 go)))
 
 -- a label, and a switch designator
 abbrev pub label_code : Placed → (line : ℕ) → Code
@@ -161,7 +161,7 @@ abbrev pub by_name : (kind need line : ℕ) → Code → (v : ℕ) → State →
 by_name kind need line body v st go =
     jumped_over line st (λ start s. evaluation kind need line body s)
     (λ start s. with_label OShort 0 start line s (λ s1. order OKeep 0 v line s1 (λ s2. order OBase 0 0 line s2 (λ s3.
-          order OKeep 0 (v + 1) line s3 go))))
+    order OKeep 0 (v + 1) line s3 go))))
 
 -- the words of a string: the number of its bytes, and the bytes, five to a word, the first in the highest bits
 abbrev pub five_bytes : (n : ℕ) → List ℕ → ℕ
@@ -321,7 +321,7 @@ declared_actual at line st go = by_count at.what.count
     by_count : ℕ → List Symbol
     by_count zero = with_label OShort 0 at.address line st go
     by_count (suc n) = jumped_over line st (λ start s k. with_label OKinds (suc n) at.address line s (λ s1.
-          data_words (packed_kinds (map formal_fitting at.what.formals)) line s1 k))
+        data_words (packed_kinds (map formal_fitting at.what.formals)) line s1 k))
         (λ start s. with_label OShort 0 start line s go)
 
 -- a switch or procedure as an actual
@@ -330,7 +330,7 @@ entity_actual at line v st go = by_kind at.what.kind
   where
     formal : List Symbol
     formal = order OTake at.level at.address line st (λ s. order OKeep 0 v line s (λ s1.
-          order OTake at.level (suc at.address) line s1 (λ s2. order OKeep 0 (v + 1) line s2 go)))
+        order OTake at.level (suc at.address) line s1 (λ s2. order OKeep 0 (v + 1) line s2 go)))
 
     based : Following
     based s = order OKeep 0 v line s (λ s1. order OBase at.level 0 line s1 (λ s2. order OKeep 0 (v + 1) line s2 go))
@@ -390,8 +390,8 @@ fitting_kind FBooleanValue = BooleanFormal
 abbrev pub value_wanted : Placed → (i level v line : ℕ) → State → Following → List Symbol
 value_wanted at i level v line st go =
     order OShort 0 i line st (λ s. order OByVal at.level at.address line s (λ s1. new s1 (λ x s2.
-          with_label OFalse 0 x line s2 (λ s3. order OValue level v line s3 (λ s4. order OKeep 0 v line s4 (λ s5.
-          define x s5 go))))))
+    with_label OFalse 0 x line s2 (λ s3. order OValue level v line s3 (λ s4. order OKeep 0 v line s4 (λ s5.
+    define x s5 go))))))
 
 abbrev pub values_wanted : Placed → (i level v line : ℕ) → List Fitting → State → Following → List Symbol
 values_wanted at i level v line [] st go = go st
@@ -407,15 +407,15 @@ formal_call at line (a ∷ more) level w st go =
     let parts = a ∷ more in
     let kinds = map (λ (q : Part). q.fitting) parts in
     order OAgree at.level at.address line st
-        (λ s.
-          data_word (length parts) line s
-          (λ s1. data_words (packed_kinds kinds) line s1 (λ s2. actuals_code (map fitting_kind kinds) level w parts s2
+    (λ s.
+    data_word (length parts) line s
+    (λ s1. data_words (packed_kinds kinds) line s1 (λ s2. actuals_code (map fitting_kind kinds) level w parts s2
     (λ s3. values_wanted at 1 level w line kinds s3 (λ s4. order OShort 0 w line s4 (λ s5.
-          order OCallF at.level at.address line s5 go))))))
+    order OCallF at.level at.address line s5 go))))))
 
 abbrev pub declared_call : Placed → (line : ℕ) → List Part → Code
 declared_call at line parts level w st go = actuals_code at.what.formals level w parts st (λ s. order OShort 0 w line s (λ s1.
-      with_label OCall at.level at.address line s1 go))
+    with_label OCall at.level at.address line s1 go))
 
 -- a standard procedure; its number is its place in their order
 abbrev pub library : Kind → (line : ℕ) → State → Following → List Symbol
@@ -464,8 +464,16 @@ actual_fitting None type = type
 actual_fitting (Some at) type = name_fitting at.what.kind
 
 abbrev pub string_part : List Byte → (line : ℕ) → Part
-string_part bs line = record { value = no_code; label = no_code; element = None; name = None;
-      string = Some (map (λ (b : Byte). b.value) bs); fitting = FString; need = 0; line = line }
+string_part bs line = record {
+  value = no_code;
+  label = no_code;
+  element = None;
+  name = None;
+  string = Some (map (λ (b : Byte). b.value) bs);
+  fitting = FString;
+  need = 0;
+  line = line;
+}
 
 abbrev mutual
   pub code_expr : Places → Expr → Code
@@ -528,7 +536,7 @@ abbrev mutual
   -- the address of an element alone
   pub code_address : Places → Expr → Option Code
   code_address p (OneSimple (OneImplication (OneDisjunction (OneConjunction (OneNegation (OneRelation (OneArithmetic (OneTerm
-        (OneFactor (OnePrimary (OneElement (Subscripted x l e es m)))))))))))) =
+      (OneFactor (OnePrimary (OneElement (Subscripted x l e es m)))))))))))) =
       Some (element_code (p x.number) x.line (code_expr p e ∷ code_exprs p es))
   code_address p e = None
 
@@ -539,7 +547,7 @@ abbrev mutual
 
   pub code_simple_label : Places → Simple → Code
   code_simple_label p (OneImplication (OneDisjunction (OneConjunction (OneNegation (OneRelation (OneArithmetic (OneTerm (OneFactor
-        (OnePrimary q))))))))) = code_primary_label p q
+      (OnePrimary q))))))))) = code_primary_label p q
   code_simple_label p s = no_code
 
   pub code_primary_label : Places → Primary → Code
@@ -551,8 +559,16 @@ abbrev mutual
   pub part_of : Places → Actual → Part
   part_of p (OneExpr e) =
       let name = placed_name p (name_alone e) in
-      record { value = code_expr p e; label = code_label p e; element = code_address p e; name = name; string = None;
-            fitting = actual_fitting name (expr_fitting p e); need = need_expr (scopes_of p) e; line = first_expr e }
+      record {
+        value = code_expr p e;
+        label = code_label p e;
+        element = code_address p e;
+        name = name;
+        string = None;
+        fitting = actual_fitting name (expr_fitting p e);
+        need = need_expr (scopes_of p) e;
+        line = first_expr e;
+      }
   part_of p (AString l bs m) = string_part bs l
 
   pub parts_of : Places → Actuals → List Part

@@ -61,7 +61,7 @@ behind_declarations (MoreDeclarations d l ds) i f = behind_declaration d i (behi
 abbrev pub within_block : Declaration → Declarations → Statement → Statements → (i : ℕ) → Renaming → Renaming
 within_block d ds s ss i f =
     behind_declaration d i
-      (behind_declarations ds (i + owns_in_declaration d) (hide_labels (labels_of_statement s (labels_of_statements ss [])) f))
+    (behind_declarations ds (i + owns_in_declaration d) (hide_labels (labels_of_statement s (labels_of_statements ss [])) f))
 
 -- within a procedure, and within a controlled statement
 abbrev pub within_procedure : Heading → Statement → Renaming → Renaming
@@ -91,7 +91,7 @@ abbrev mutual
       let j = i + owns_in_declaration d in
       let k = j + owns_in_declarations ds in
       MkBlock l (hoist_declaration d i g) m (hoist_declarations ds j g) (hoist_statement s k g)
-          (hoist_statements ss (k + owns_in_statement s) g) n
+      (hoist_statements ss (k + owns_in_statement s) g) n
   hoist_group (MkCompound l s ss m) i f = MkCompound l (hoist_statement s i f) (hoist_statements ss (i + owns_in_statement s) f) m
 
   pub hoist_statements : Statements → (i : ℕ) → Renaming → Statements
@@ -135,7 +135,7 @@ fresh_names (MkNames x ns) i = MkNames (record { number = fresh i; line = x.line
 abbrev pub signed_number : Adding → (sign value line : ℕ) → Expr
 signed_number o k n l =
     OneSimple (OneImplication (OneDisjunction (OneConjunction (OneNegation (OneRelation (OneArithmetic (Signed o k (OneFactor
-        (OnePrimary (Numeral n l))))))))))
+    (OnePrimary (Numeral n l))))))))))
 
 abbrev pub constant_expr : Constant → Expr
 constant_expr (Unsigned n l) = only (Numeral n l)
@@ -195,7 +195,7 @@ first_line (MkProgram (p ∷ ls) g l) = p.name.line
 abbrev pub with_fresh : Program → Statement
 with_fresh (MkProgram ls g l) =
     OneUnconditional
-      (MkUnconditional ls (OneGroup (hoist_group g 0 (hide_labels (labels_of_program (MkProgram ls g l)) (λ x. x)))))
+    (MkUnconditional ls (OneGroup (hoist_group g 0 (hide_labels (labels_of_program (MkProgram ls g l)) (λ x. x)))))
 
 abbrev pub end_line : Program → ℕ
 end_line (MkProgram ls g l) = l
@@ -204,7 +204,7 @@ abbrev pub hoist_by : List Declaration → Program → Program
 hoist_by [] t = t
 hoist_by (d ∷ ds) t =
     MkProgram [] (MkBlock (first_line t) (without_own d 0) (last_own d) (hoisted_declarations ds (length (own_names d)))
-        (with_fresh t) NoStatements (end_line t)) (end_line t)
+    (with_fresh t) NoStatements (end_line t)) (end_line t)
 
 abbrev pub hoist : Program → Program
 hoist t = hoist_by (owns_of_program t) t

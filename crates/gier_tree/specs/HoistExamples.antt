@@ -21,8 +21,8 @@ use Rattle.gier_tree.specs.Hoist.{hoist}
 abbrev pub no_own : Program
 no_own = MkProgram (record { name = (at 8 1); colon = 1 } ∷ [])
     (MkBlock 1 (DeclareType (record { type = IntegerType; line = 1 }) (MkNames (at 9 1) ([]))) 1 NoDeclarations
-      (OneUnconditional (MkUnconditional ([]) (Assign (record { left = OneName (at 9 2); becomes = 2 }) ([]) (only
-        (Numeral 1 2))))) NoStatements 2) 2
+    (OneUnconditional (MkUnconditional ([]) (Assign (record { left = OneName (at 9 2); becomes = 2 }) ([]) (only
+    (Numeral 1 2))))) NoStatements 2) 2
 
 abbrev pub no_own_symbols : List Symbol
 no_own_symbols = row 3 8 1 ∷ row 29 0 1 ∷ row 36 0 1 ∷ row 47 0 1 ∷ row 3 9 1 ∷ row 30 0 1 ∷ row 3 9 2 ∷ row 31 0 2 ∷ row 4 1 2
@@ -32,11 +32,11 @@ no_own_symbols = row 3 8 1 ∷ row 29 0 1 ∷ row 36 0 1 ∷ row 47 0 1 ∷ row 
 abbrev pub one_own : Program
 one_own =
     MkProgram ([]) (MkBlock 1 (DeclareOwn 2 (record { type = IntegerType; line = 2 }) (MkNames (at 8 2) ([]))) 2 NoDeclarations
-        (OneUnconditional (MkUnconditional ([]) (Assign (record { left = OneName (at 8 2); becomes = 2 }) ([]) (OneSimple
-          (OneImplication (OneDisjunction (OneConjunction (OneNegation (OneRelation (OneArithmetic (Summed
-          (OneTerm (OneFactor (OnePrimary (OneCall (Alone (at 8 2)))))) Add 2 (OneFactor (OnePrimary (Numeral 1 2))))))))))))))
-        (MoreStatements 2 (OneUnconditional (MkUnconditional ([]) (CallStatement (WithActuals (at 1 3) 3
-            (AString 3 (record { value = 97; line = 3 } ∷ []) 3) NoActuals 3)))) NoStatements) 3) 4
+    (OneUnconditional (MkUnconditional ([]) (Assign (record { left = OneName (at 8 2); becomes = 2 }) ([]) (OneSimple
+    (OneImplication (OneDisjunction (OneConjunction (OneNegation (OneRelation (OneArithmetic (Summed
+    (OneTerm (OneFactor (OnePrimary (OneCall (Alone (at 8 2)))))) Add 2 (OneFactor (OnePrimary (Numeral 1 2))))))))))))))
+    (MoreStatements 2 (OneUnconditional (MkUnconditional ([]) (CallStatement (WithActuals (at 1 3) 3
+    (AString 3 (record { value = 97; line = 3 } ∷ []) 3) NoActuals 3)))) NoStatements) 3) 4
 
 abbrev pub one_own_symbols : List Symbol
 one_own_symbols = row 36 0 1 ∷ row 47 0 2 ∷ row 3 4294967296 2 ∷ row 30 0 2 ∷ row 36 0 1 ∷ row 55 0 2 ∷ row 47 0 2 ∷ row 3 8 2
@@ -47,17 +47,21 @@ one_own_symbols = row 36 0 1 ∷ row 47 0 2 ∷ row 3 4294967296 2 ∷ row 30 0 
 abbrev pub own_array : Program
 own_array = MkProgram (record { name = (at 8 1); colon = 1 } ∷ record { name = (at 9 1); colon = 1 } ∷ [])
     (MkBlock 2
-      (DeclareOwnArrays 2 (record { type = BooleanType; line = 2 }) 2
-        (MkFixed (MkNames (at 10 2) (record { comma = 2; name = (at 11 2) } ∷ [])) 2
-          (MkFixedPair (WithSign Subtract 2 1 2) 2 (WithSign Add 2 2 2))
-          (MoreFurther 2 (MkFixedPair (Unsigned 3 2) 2 (Unsigned 4 2)) NoFurther) 2) (record
-        { comma = 2; segment = (MkFixed (MkNames (at 12 3) ([])) 3 (MkFixedPair (Unsigned 0 3) 3 (Unsigned 1 3)) NoFurther 3) }
-        ∷ [])) 4 NoDeclarations
-      (OneUnconditional (MkUnconditional ([]) (Assign
-        (record { left = LeftElement (Subscripted (at 10 4) 4 (only (Numeral 1 4)) (MoreExprs 4 (only (Numeral 3 4)) NoExprs) 4);
-          becomes = 4 })
-        (record { left = LeftElement (Subscripted (at 11 4) 4 (only (Numeral 0 4)) (MoreExprs 4 (only (Numeral 4 4)) NoExprs) 4);
-            becomes = 4 } ∷ []) (only (OneElement (Subscripted (at 12 4) 4 (only (Numeral 1 4)) NoExprs 4)))))) NoStatements 4) 4
+    (DeclareOwnArrays 2 (record { type = BooleanType; line = 2 }) 2
+    (MkFixed (MkNames (at 10 2) (record { comma = 2; name = (at 11 2) } ∷ [])) 2
+    (MkFixedPair (WithSign Subtract 2 1 2) 2 (WithSign Add 2 2 2))
+    (MoreFurther 2 (MkFixedPair (Unsigned 3 2) 2 (Unsigned 4 2)) NoFurther) 2) (record
+    { comma = 2; segment = (MkFixed (MkNames (at 12 3) ([])) 3 (MkFixedPair (Unsigned 0 3) 3 (Unsigned 1 3)) NoFurther 3) }
+    ∷ [])) 4 NoDeclarations
+    (OneUnconditional (MkUnconditional ([]) (Assign
+    (record {
+      left = LeftElement (Subscripted (at 10 4) 4 (only (Numeral 1 4)) (MoreExprs 4 (only (Numeral 3 4)) NoExprs) 4);
+      becomes = 4;
+    })
+    (record {
+      left = LeftElement (Subscripted (at 11 4) 4 (only (Numeral 0 4)) (MoreExprs 4 (only (Numeral 4 4)) NoExprs) 4);
+      becomes = 4;
+    } ∷ []) (only (OneElement (Subscripted (at 12 4) 4 (only (Numeral 1 4)) NoExprs 4)))))) NoStatements 4) 4
 
 abbrev pub own_array_symbols : List Symbol
 own_array_symbols = row 36 0 1 ∷ row 48 0 2 ∷ row 49 0 2 ∷ row 3 4294967296 2 ∷ row 28 0 2 ∷ row 3 4294967297 2 ∷ row 34 0 2
@@ -74,26 +78,30 @@ own_array_symbols = row 36 0 1 ∷ row 48 0 2 ∷ row 49 0 2 ∷ row 3 429496729
 abbrev pub own_hidden : Program
 own_hidden =
     MkProgram ([])
-      (MkBlock 1 (DeclareOwn 1 (record { type = IntegerType; line = 1 }) (MkNames (at 8 1) (record { comma = 1; name = (at 9 1) }
-          ∷ []))) 1 NoDeclarations
-        (OneUnconditional (MkUnconditional ([]) (OneGroup (MkBlock 2
-          (DeclareType (record { type = IntegerType; line = 2 }) (MkNames (at 8 2) ([]))) 2 NoDeclarations
-          (OneUnconditional (MkUnconditional ([]) (Assign (record { left = OneName (at 8 2); becomes = 2 }) ([]) (only (OneCall
-            (Alone (at 9 2))))))) NoStatements 2))))
-        (MoreStatements 2
-          (OneUnconditional (MkUnconditional ([]) (OneGroup (MkBlock 3
-            (DeclareProcedure (MkHeading None 3 (at 10 3) (FormalList 3 (MkNames (at 9 3) ([])) 3) 3 NoValues (record
-                { specifier = ValueSpec (record { type = IntegerType; line = 3 }); names = (MkNames (at 9 3) ([]));
-                semicolon = 3 } ∷ [])) (OneUnconditional (MkUnconditional ([]) (Assign (record { left = OneName (at 9 3);
-                becomes = 3 }) ([]) (only (OneCall (Alone (at 8 3)))))))) 3 NoDeclarations
-            (OneUnconditional (MkUnconditional ([]) (CallStatement (WithActuals (at 10 3) 3
-              (OneExpr (only (OneCall (Alone (at 8 3))))) NoActuals 3)))) NoStatements 3)))) (MoreStatements 3
-          (OneLoop (MkLoop ([]) 4 (at 8 4) 4 (OneValue (only (OneCall (Alone (at 9 4))))) ([]) 4 (OneUnconditional
-            (MkUnconditional ([]) (OneGroup (MkCompound 4
-            (OneUnconditional (MkUnconditional (record { name = (at 9 4); colon = 4 } ∷ []) (Jump 4 (only (OneCall (Alone
-              (at 9 4))))))) NoStatements 4)))))) (MoreStatements 4
-          (OneUnconditional (MkUnconditional ([]) (Assign (record { left = OneName (at 8 5); becomes = 5 }) ([]) (only (OneCall
-            (Alone (at 9 5))))))) NoStatements))) 5) 5
+    (MkBlock 1 (DeclareOwn 1 (record { type = IntegerType; line = 1 }) (MkNames (at 8 1) (record { comma = 1; name = (at 9 1) }
+    ∷ []))) 1 NoDeclarations
+    (OneUnconditional (MkUnconditional ([]) (OneGroup (MkBlock 2
+    (DeclareType (record { type = IntegerType; line = 2 }) (MkNames (at 8 2) ([]))) 2 NoDeclarations
+    (OneUnconditional (MkUnconditional ([]) (Assign (record { left = OneName (at 8 2); becomes = 2 }) ([]) (only (OneCall
+    (Alone (at 9 2))))))) NoStatements 2))))
+    (MoreStatements 2
+    (OneUnconditional (MkUnconditional ([]) (OneGroup (MkBlock 3
+    (DeclareProcedure (MkHeading None 3 (at 10 3) (FormalList 3 (MkNames (at 9 3) ([])) 3) 3 NoValues (record {
+      specifier = ValueSpec (record { type = IntegerType; line = 3 });
+      names = (MkNames (at 9 3) ([]));
+      semicolon = 3;
+    } ∷ [])) (OneUnconditional (MkUnconditional ([]) (Assign (record {
+      left = OneName (at 9 3);
+      becomes = 3;
+    }) ([]) (only (OneCall (Alone (at 8 3)))))))) 3 NoDeclarations
+    (OneUnconditional (MkUnconditional ([]) (CallStatement (WithActuals (at 10 3) 3
+    (OneExpr (only (OneCall (Alone (at 8 3))))) NoActuals 3)))) NoStatements 3)))) (MoreStatements 3
+    (OneLoop (MkLoop ([]) 4 (at 8 4) 4 (OneValue (only (OneCall (Alone (at 9 4))))) ([]) 4 (OneUnconditional
+    (MkUnconditional ([]) (OneGroup (MkCompound 4
+    (OneUnconditional (MkUnconditional (record { name = (at 9 4); colon = 4 } ∷ []) (Jump 4 (only (OneCall (Alone
+    (at 9 4))))))) NoStatements 4)))))) (MoreStatements 4
+    (OneUnconditional (MkUnconditional ([]) (Assign (record { left = OneName (at 8 5); becomes = 5 }) ([]) (only (OneCall
+    (Alone (at 9 5))))))) NoStatements))) 5) 5
 
 abbrev pub own_hidden_symbols : List Symbol
 own_hidden_symbols = row 36 0 1 ∷ row 47 0 1 ∷ row 3 4294967296 1 ∷ row 28 0 1 ∷ row 3 4294967297 1 ∷ row 30 0 1 ∷ row 36 0 1
@@ -108,26 +116,26 @@ own_hidden_symbols = row 36 0 1 ∷ row 47 0 1 ∷ row 3 4294967296 1 ∷ row 28
 -- own quantities of inner blocks and procedures are numbered in the order of the text
 abbrev pub own_inner : Program
 own_inner = MkProgram ([]) (MkBlock 1 (DeclareType (record { type = IntegerType; line = 1 }) (MkNames (at 8 1) ([]))) 1
-      (MoreDeclarations (DeclareProcedure (MkHeading None 1 (at 9 1) NoFormals 1 NoValues ([])) (OneUnconditional (MkUnconditional
-          ([]) (OneGroup (MkBlock 1 (DeclareOwn 1 (record { type = IntegerType; line = 1 }) (MkNames (at 8 1) ([]))) 1
-          NoDeclarations (OneUnconditional (MkUnconditional ([]) (Assign (record { left = OneName (at 8 1); becomes = 1 }) ([])
-            (OneSimple (OneImplication (OneDisjunction (OneConjunction (OneNegation (OneRelation (OneArithmetic (Summed
-            (OneTerm (OneFactor (OnePrimary (OneCall (Alone (at 8 1)))))) Add 1 (OneFactor (OnePrimary (Numeral 1 1))))))))))))))
-          NoStatements 1))))) 1 (MoreDeclarations (DeclareOwn 2 (record { type = IntegerType; line = 2 }) (MkNames (at 10 2)
-          ([]))) 2 NoDeclarations))
-      (OneUnconditional (MkUnconditional ([]) (Assign (record { left = OneName (at 8 2); becomes = 2 }) ([]) (only (OneCall (Alone
-        (at 10 2)))))))
-      (MoreStatements 2
-        (OneConditional (IfElse ([]) 3 (OneSimple (OneImplication (OneDisjunction (OneConjunction (OneNegation (OneRelation
-            (Compared (OneTerm (OneFactor (OnePrimary (OneCall (Alone (at 8 3)))))) EqualTo 3 (OneTerm (OneFactor (OnePrimary
-            (Numeral 1 3))))))))))) 3
-          (MkUnconditional ([]) (OneGroup (MkBlock 3 (DeclareOwn 3 (record { type = BooleanType; line = 3 }) (MkNames (at 8 3)
-              (record { comma = 3; name = (at 11 3) } ∷ []))) 3 NoDeclarations
-            (OneUnconditional (MkUnconditional ([]) (Assign (record { left = OneName (at 8 3); becomes = 3 }) ([]) (only (OneCall
-              (Alone (at 11 3))))))) NoStatements 3))) 4 (OneUnconditional (MkUnconditional ([]) (OneGroup (MkBlock 4
-          (DeclareOwn 4 (record { type = IntegerType; line = 4 }) (MkNames (at 8 4) ([]))) 4 NoDeclarations
-          (OneUnconditional (MkUnconditional ([]) (Assign (record { left = OneName (at 8 4); becomes = 4 }) ([]) (only (OneCall
-            (Alone (at 10 4))))))) NoStatements 4)))))) NoStatements) 4) 4
+    (MoreDeclarations (DeclareProcedure (MkHeading None 1 (at 9 1) NoFormals 1 NoValues ([])) (OneUnconditional (MkUnconditional
+    ([]) (OneGroup (MkBlock 1 (DeclareOwn 1 (record { type = IntegerType; line = 1 }) (MkNames (at 8 1) ([]))) 1
+    NoDeclarations (OneUnconditional (MkUnconditional ([]) (Assign (record { left = OneName (at 8 1); becomes = 1 }) ([])
+    (OneSimple (OneImplication (OneDisjunction (OneConjunction (OneNegation (OneRelation (OneArithmetic (Summed
+    (OneTerm (OneFactor (OnePrimary (OneCall (Alone (at 8 1)))))) Add 1 (OneFactor (OnePrimary (Numeral 1 1))))))))))))))
+    NoStatements 1))))) 1 (MoreDeclarations (DeclareOwn 2 (record { type = IntegerType; line = 2 }) (MkNames (at 10 2)
+    ([]))) 2 NoDeclarations))
+    (OneUnconditional (MkUnconditional ([]) (Assign (record { left = OneName (at 8 2); becomes = 2 }) ([]) (only (OneCall (Alone
+    (at 10 2)))))))
+    (MoreStatements 2
+    (OneConditional (IfElse ([]) 3 (OneSimple (OneImplication (OneDisjunction (OneConjunction (OneNegation (OneRelation
+    (Compared (OneTerm (OneFactor (OnePrimary (OneCall (Alone (at 8 3)))))) EqualTo 3 (OneTerm (OneFactor (OnePrimary
+    (Numeral 1 3))))))))))) 3
+    (MkUnconditional ([]) (OneGroup (MkBlock 3 (DeclareOwn 3 (record { type = BooleanType; line = 3 }) (MkNames (at 8 3)
+    (record { comma = 3; name = (at 11 3) } ∷ []))) 3 NoDeclarations
+    (OneUnconditional (MkUnconditional ([]) (Assign (record { left = OneName (at 8 3); becomes = 3 }) ([]) (only (OneCall
+    (Alone (at 11 3))))))) NoStatements 3))) 4 (OneUnconditional (MkUnconditional ([]) (OneGroup (MkBlock 4
+    (DeclareOwn 4 (record { type = IntegerType; line = 4 }) (MkNames (at 8 4) ([]))) 4 NoDeclarations
+    (OneUnconditional (MkUnconditional ([]) (Assign (record { left = OneName (at 8 4); becomes = 4 }) ([]) (only (OneCall
+    (Alone (at 10 4))))))) NoStatements 4)))))) NoStatements) 4) 4
 
 abbrev pub own_inner_symbols : List Symbol
 own_inner_symbols = row 36 0 1 ∷ row 47 0 1 ∷ row 3 4294967296 1 ∷ row 30 0 1 ∷ row 47 0 2 ∷ row 3 4294967297 2 ∷ row 30 0 2
@@ -144,58 +152,62 @@ own_inner_symbols = row 36 0 1 ∷ row 47 0 1 ∷ row 3 4294967296 1 ∷ row 30 
 abbrev pub own_places : Program
 own_places =
     MkProgram ([])
-      (MkBlock 1 (DeclareOwn 1 (record { type = IntegerType; line = 1 }) (MkNames (at 8 1) (record { comma = 1; name = (at 9 1) }
-          ∷ []))) 1
-        (MoreDeclarations
-          (DeclareOwnArrays 1 (record { type = IntegerType; line = 1 }) 1
-            (MkFixed (MkNames (at 10 1) ([])) 1 (MkFixedPair (Unsigned 1 1) 1 (Unsigned 2 1)) NoFurther 1) ([])) 1
-          (MoreDeclarations (DeclareSwitch 1 (at 11 1) 1 (only (OneCall (Alone (at 12 1)))) NoExprs) 1 (MoreDeclarations
-          (DeclareProcedure
-            (MkHeading None 2 (at 13 2) (FormalList 2 (MkNames (at 14 2) (record { comma = 2; name = (at 15 2) } ∷ [])) 2) 2
-              NoValues (record { specifier = ValueSpec (record { type = IntegerType; line = 2 });
-                names = (MkNames (at 14 2) ([])); semicolon = 2 }
-              ∷ record { specifier = StringSpec 2; names = (MkNames (at 15 2) ([])); semicolon = 2 } ∷ [])) (OneUnconditional
-            (MkUnconditional ([]) (Assign (record { left = OneName (at 14 2); becomes = 2 }) ([]) (only (OneCall (Alone
-            (at 8 2)))))))) 2 NoDeclarations)))
-        (OneUnconditional (MkUnconditional ([]) (OneGroup (MkBlock 3
-          (DeclareArrays (record { type = IntegerType; line = 3 }) 3
-            (MkSegment (MkNames (at 16 3) ([])) 3 (MkPair (only (OneCall (Alone (at 8 3)))) 3 (only (OneCall (Alone (at 9 3)))))
-              ([]) 3) ([])) 3 NoDeclarations
-          (OneUnconditional (MkUnconditional ([]) (Assign
-            (record { left = LeftElement (Subscripted (at 16 3) 3 (only (OneCall (Alone (at 8 3)))) NoExprs 3); becomes = 3 })
-            ([]) (only (OneElement (Subscripted (at 10 3) 3 (only (OneCall (Alone (at 9 3)))) NoExprs 3)))))) NoStatements 3))))
-        (MoreStatements 3 (OneLoop (MkLoop (record { name = (at 12 4); colon = 4 } ∷ []) 4 (at 8 4) 4
-            (StepUntil (only (OneCall (Alone (at 9 4)))) 4 (only (OneCall (Alone (at 8 4)))) 4 (only (OneElement (Subscripted
-              (at 10 4) 4 (only (Numeral 1 4)) NoExprs 4))))
-            (record
-              { comma = 4;
-                turns = (WhileTrue (only (OneCall (Alone (at 9 4)))) 4 (OneSimple (OneImplication (OneDisjunction (OneConjunction
-                (OneNegation (OneRelation (Compared (Signed Subtract 4 (OneFactor (OnePrimary (OneCall (Alone (at 9 4))))))
-                LessThan 4 (OneTerm (OneFactor (OnePrimary (OneCall (Alone (at 8 4)))))))))))))) } ∷ []) 4 (OneUnconditional
-            (MkUnconditional ([]) (CallStatement (WithActuals (at 13 4) 4
-            (OneExpr (only (Bracketed 4 (OneSimple (OneImplication (OneDisjunction (OneConjunction (OneNegation (OneRelation
-                (OneArithmetic (Summed (OneTerm (OneFactor (OnePrimary (OneCall (Alone (at 8 4)))))) Add 4 (Multiplied
-                (OneFactor (OnePrimary (OneCall (Alone (at 9 4))))) Multiply 4 (OnePrimary (OneCall (Alone (at 8 4)))))))))))))
-              4))) (MoreActuals 4 (AString 4 (record { value = 105; line = 4 } ∷ []) 4) NoActuals) 4)))))) (MoreStatements 4
-          (OneConditional (IfThen ([]) 5
-            (OneSimple (Equivalent
-              (OneImplication (Implies
-                (OneDisjunction (Either
-                (OneConjunction (Both
-                (OneNegation (Negated 5 (Compared (OneTerm (OneFactor (OnePrimary (OneCall (Alone (at 8 5)))))) EqualTo 5 (OneTerm
-                (OneFactor (OnePrimary (OneCall (Alone (at 9 5))))))))) 5 (OneRelation (OneArithmetic (OneTerm (OneFactor
-                (OnePrimary (Logical true 5)))))))) 5 (OneNegation (OneRelation (Compared
-                (OneTerm (Multiplied
-                (OneFactor (Raised (OnePrimary (OneElement (Subscripted (at 10 5) 5 (only (OneCall (Alone (at 8 5)))) NoExprs 5)))
-                5 (OneCall (Alone (at 9 5))))) Divide 5 (OnePrimary (Numeral 2 5)))) AtLeast 5 (OneTerm (OneFactor (OnePrimary
-                (Numeral 0 5))))))))) 5 (OneConjunction (OneNegation (OneRelation (OneArithmetic (OneTerm (OneFactor (OnePrimary
-                (Logical false 5)))))))))) 5 (OneDisjunction (OneConjunction (OneNegation (OneRelation (OneArithmetic (OneTerm
-              (OneFactor (OnePrimary (Logical true 5))))))))))) 5 (MkUnconditional ([]) (Jump 5 (IfExpr 5
-            (OneSimple (OneImplication (OneDisjunction (OneConjunction (OneNegation (OneRelation (Compared
-              (OneTerm (OneFactor (OnePrimary (OneCall (Alone (at 8 5)))))) EqualTo 5 (OneTerm (OneFactor (OnePrimary
-              (Numeral 1 5))))))))))) 5 (OneImplication (OneDisjunction (OneConjunction (OneNegation (OneRelation (OneArithmetic
-              (OneTerm (OneFactor (OnePrimary (OneCall (Alone (at 12 5)))))))))))) 5 (only (OneElement (Subscripted (at 11 5) 5
-            (only (OneCall (Alone (at 9 5)))) NoExprs 5)))))))) NoStatements)) 5) 5
+    (MkBlock 1 (DeclareOwn 1 (record { type = IntegerType; line = 1 }) (MkNames (at 8 1) (record { comma = 1; name = (at 9 1) }
+    ∷ []))) 1
+    (MoreDeclarations
+    (DeclareOwnArrays 1 (record { type = IntegerType; line = 1 }) 1
+    (MkFixed (MkNames (at 10 1) ([])) 1 (MkFixedPair (Unsigned 1 1) 1 (Unsigned 2 1)) NoFurther 1) ([])) 1
+    (MoreDeclarations (DeclareSwitch 1 (at 11 1) 1 (only (OneCall (Alone (at 12 1)))) NoExprs) 1 (MoreDeclarations
+    (DeclareProcedure
+    (MkHeading None 2 (at 13 2) (FormalList 2 (MkNames (at 14 2) (record { comma = 2; name = (at 15 2) } ∷ [])) 2) 2
+    NoValues (record {
+      specifier = ValueSpec (record { type = IntegerType; line = 2 });
+      names = (MkNames (at 14 2) ([]));
+      semicolon = 2;
+    }
+    ∷ record { specifier = StringSpec 2; names = (MkNames (at 15 2) ([])); semicolon = 2 } ∷ [])) (OneUnconditional
+    (MkUnconditional ([]) (Assign (record { left = OneName (at 14 2); becomes = 2 }) ([]) (only (OneCall (Alone
+    (at 8 2)))))))) 2 NoDeclarations)))
+    (OneUnconditional (MkUnconditional ([]) (OneGroup (MkBlock 3
+    (DeclareArrays (record { type = IntegerType; line = 3 }) 3
+    (MkSegment (MkNames (at 16 3) ([])) 3 (MkPair (only (OneCall (Alone (at 8 3)))) 3 (only (OneCall (Alone (at 9 3)))))
+    ([]) 3) ([])) 3 NoDeclarations
+    (OneUnconditional (MkUnconditional ([]) (Assign
+    (record { left = LeftElement (Subscripted (at 16 3) 3 (only (OneCall (Alone (at 8 3)))) NoExprs 3); becomes = 3 })
+    ([]) (only (OneElement (Subscripted (at 10 3) 3 (only (OneCall (Alone (at 9 3)))) NoExprs 3)))))) NoStatements 3))))
+    (MoreStatements 3 (OneLoop (MkLoop (record { name = (at 12 4); colon = 4 } ∷ []) 4 (at 8 4) 4
+    (StepUntil (only (OneCall (Alone (at 9 4)))) 4 (only (OneCall (Alone (at 8 4)))) 4 (only (OneElement (Subscripted
+    (at 10 4) 4 (only (Numeral 1 4)) NoExprs 4))))
+    (record {
+      comma = 4;
+      turns = (WhileTrue (only (OneCall (Alone (at 9 4)))) 4 (OneSimple (OneImplication (OneDisjunction (OneConjunction
+          (OneNegation (OneRelation (Compared (Signed Subtract 4 (OneFactor (OnePrimary (OneCall (Alone (at 9 4))))))
+          LessThan 4 (OneTerm (OneFactor (OnePrimary (OneCall (Alone (at 8 4))))))))))))));
+    } ∷ []) 4 (OneUnconditional
+    (MkUnconditional ([]) (CallStatement (WithActuals (at 13 4) 4
+    (OneExpr (only (Bracketed 4 (OneSimple (OneImplication (OneDisjunction (OneConjunction (OneNegation (OneRelation
+    (OneArithmetic (Summed (OneTerm (OneFactor (OnePrimary (OneCall (Alone (at 8 4)))))) Add 4 (Multiplied
+    (OneFactor (OnePrimary (OneCall (Alone (at 9 4))))) Multiply 4 (OnePrimary (OneCall (Alone (at 8 4)))))))))))))
+    4))) (MoreActuals 4 (AString 4 (record { value = 105; line = 4 } ∷ []) 4) NoActuals) 4)))))) (MoreStatements 4
+    (OneConditional (IfThen ([]) 5
+    (OneSimple (Equivalent
+    (OneImplication (Implies
+    (OneDisjunction (Either
+    (OneConjunction (Both
+    (OneNegation (Negated 5 (Compared (OneTerm (OneFactor (OnePrimary (OneCall (Alone (at 8 5)))))) EqualTo 5 (OneTerm
+    (OneFactor (OnePrimary (OneCall (Alone (at 9 5))))))))) 5 (OneRelation (OneArithmetic (OneTerm (OneFactor
+    (OnePrimary (Logical true 5)))))))) 5 (OneNegation (OneRelation (Compared
+    (OneTerm (Multiplied
+    (OneFactor (Raised (OnePrimary (OneElement (Subscripted (at 10 5) 5 (only (OneCall (Alone (at 8 5)))) NoExprs 5)))
+    5 (OneCall (Alone (at 9 5))))) Divide 5 (OnePrimary (Numeral 2 5)))) AtLeast 5 (OneTerm (OneFactor (OnePrimary
+    (Numeral 0 5))))))))) 5 (OneConjunction (OneNegation (OneRelation (OneArithmetic (OneTerm (OneFactor (OnePrimary
+    (Logical false 5)))))))))) 5 (OneDisjunction (OneConjunction (OneNegation (OneRelation (OneArithmetic (OneTerm
+    (OneFactor (OnePrimary (Logical true 5))))))))))) 5 (MkUnconditional ([]) (Jump 5 (IfExpr 5
+    (OneSimple (OneImplication (OneDisjunction (OneConjunction (OneNegation (OneRelation (Compared
+    (OneTerm (OneFactor (OnePrimary (OneCall (Alone (at 8 5)))))) EqualTo 5 (OneTerm (OneFactor (OnePrimary
+    (Numeral 1 5))))))))))) 5 (OneImplication (OneDisjunction (OneConjunction (OneNegation (OneRelation (OneArithmetic
+    (OneTerm (OneFactor (OnePrimary (OneCall (Alone (at 12 5)))))))))))) 5 (only (OneElement (Subscripted (at 11 5) 5
+    (only (OneCall (Alone (at 9 5)))) NoExprs 5)))))))) NoStatements)) 5) 5
 
 abbrev pub own_places_symbols : List Symbol
 own_places_symbols = row 36 0 1 ∷ row 47 0 1 ∷ row 3 4294967296 1 ∷ row 28 0 1 ∷ row 3 4294967297 1 ∷ row 30 0 1 ∷ row 47 0 1
@@ -222,14 +234,14 @@ own_places_symbols = row 36 0 1 ∷ row 47 0 1 ∷ row 3 4294967296 1 ∷ row 28
 abbrev pub own_bracket_below : Program
 own_bracket_below = MkProgram [] (MkBlock 1
     (DeclareOwnArrays 1 (record { type = IntegerType; line = 1 }) 1
-        (MkFixed (MkNames (at 8 1) []) 1 (MkFixedPair (Unsigned 1 1) 1 (Unsigned 2 2)) NoFurther 2) [])
+    (MkFixed (MkNames (at 8 1) []) 1 (MkFixedPair (Unsigned 1 1) 1 (Unsigned 2 2)) NoFurther 2) [])
     2 NoDeclarations (OneUnconditional (MkUnconditional [] Dummy)) NoStatements 2) 2
 
 abbrev pub own_bracket_below_symbols : List Symbol
 own_bracket_below_symbols =
     row 36 0 1 ∷ row 47 0 1 ∷ row 49 0 1 ∷ row 3 4294967296 1 ∷ row 34 0 1 ∷ row 4 1 1 ∷ row 29 0 1 ∷ row 4 2 2 ∷
     row 35 0 2 ∷ row 30 0 1 ∷ row 36 0 1 ∷ row 55 0 1 ∷ row 47 0 1 ∷ row 49 0 1 ∷ row 3 8 1 ∷ row 34 0 1 ∷ row 4 1 1 ∷ row 29 0 1
-        ∷ row 4 2 2 ∷
+    ∷ row 4 2 2 ∷
     row 35 0 2 ∷ row 30 0 2 ∷ row 37 0 2 ∷ row 37 0 2 ∷ row 8 0 2 ∷ []
 
 pub record AreHoisted : Type 0 where

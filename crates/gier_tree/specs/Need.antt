@@ -111,7 +111,7 @@ abbrev mutual
       let n = need_actual scopes a in
       let formals = (scopes x.number).formals in
       call_need (scopes x.number).kind (suc (count_actuals more))
-          (max (first_need formals 0 n) (need_by_value scopes more (other_kinds formals) 2)) (max n (need_actuals scopes more))
+      (max (first_need formals 0 n) (need_by_value scopes more (other_kinds formals) 2)) (max n (need_actuals scopes more))
 
   pub need_element : Scopes → Element → ℕ
   need_element scopes (Subscripted x l e es m) =

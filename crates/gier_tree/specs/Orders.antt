@@ -81,4 +81,4 @@ data_words (v ∷ vs) line st go = data_word v line st (λ s. data_words vs line
 abbrev pub jumped_over : (line : ℕ) → State → ((start : ℕ) → State → Following → List Symbol) → ((start : ℕ) → Following)
     → List Symbol
 jumped_over line st piece go = new st (λ x s. with_label OJump 0 x line s (λ s1. new s1 (λ start s2. define start s2 (λ s3.
-      piece start s3 (λ s4. define x s4 (go start))))))
+    piece start s3 (λ s4. define x s4 (go start))))))

@@ -213,7 +213,7 @@ spell_specifications (s ∷ ss) rest =
 
 abbrev pub spell_heading : Heading → List Symbol → List Symbol
 spell_heading (MkHeading t l x fs m vs ss) rest = spell_option_type t (word Procedure l ∷ ident x
-      ∷ spell_formals fs (word Semicolon m ∷ spell_values vs (spell_specifications ss rest)))
+    ∷ spell_formals fs (word Semicolon m ∷ spell_values vs (spell_specifications ss rest)))
 
 -- parts of statements
 abbrev pub spell_labels : List LabelPlace → List Symbol → List Symbol
@@ -255,7 +255,7 @@ abbrev mutual
   pub spell_group : Group → List Symbol → List Symbol
   spell_group (MkBlock l d m ds s ss n) rest = word Begin l
       ∷ spell_declaration d (word Semicolon m ∷ spell_declarations ds (spell_statement s (spell_statements ss
-        (word End n ∷ rest))))
+      (word End n ∷ rest))))
   spell_group (MkCompound l s ss m) rest = word Begin l ∷ spell_statement s (spell_statements ss (word End m ∷ rest))
 
   pub spell_statements : Statements → List Symbol → List Symbol
@@ -285,7 +285,7 @@ abbrev mutual
 
   pub spell_loop : Loop → List Symbol → List Symbol
   spell_loop (MkLoop ls l x m t ts n s) rest = spell_labels ls (word For l ∷ ident x ∷ word Becomes m
-        ∷ spell_turns t (spell_next_turns ts (word Do n ∷ spell_statement s rest)))
+      ∷ spell_turns t (spell_next_turns ts (word Do n ∷ spell_statement s rest)))
 
 -- a program and the end of its text
 abbrev pub spell_program : Program → List Symbol

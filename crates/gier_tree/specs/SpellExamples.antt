@@ -25,17 +25,17 @@ row tag value line = record { tag = tag; value = value; line = line }
 abbrev pub sums_tree : Program
 sums_tree =
     MkProgram ([]) (MkBlock 1 (DeclareType (record { type = IntegerType; line = 1 }) (MkNames (at 8 1) ([]))) 1 NoDeclarations
-        (OneUnconditional (MkUnconditional ([]) (Assign (record { left = OneName (at 8 2); becomes = 2 }) ([]) (OneSimple
-          (OneImplication (OneDisjunction (OneConjunction (OneNegation (OneRelation (OneArithmetic (OneTerm (Multiplied
-          (OneFactor (OnePrimary (Bracketed 2 (OneSimple (OneImplication (OneDisjunction (OneConjunction (OneNegation (OneRelation
-              (OneArithmetic (Summed (OneTerm (OneFactor (OnePrimary (Numeral 1 2)))) Add 2 (OneFactor (OnePrimary
-              (Numeral 2 2))))))))))) 2))) Multiply 2 (Raised (OnePrimary (Numeral 3 2)) 2 (Numeral 2 2))))))))))))))
-        (MoreStatements 2 (OneUnconditional (MkUnconditional ([]) (CallStatement (WithActuals (at 1 3) 3
-            (AString 3 (record { value = 97; line = 3 } ∷ record { value = 10; line = 3 } ∷ []) 4) NoActuals 4))))
-          (MoreStatements 4 (OneUnconditional (MkUnconditional ([]) (CallStatement (WithActuals (at 0 4) 4
-            (OneExpr (OneSimple (OneImplication (OneDisjunction (OneConjunction (OneNegation (OneRelation (OneArithmetic
-              (Signed Subtract 4 (Multiplied (OneFactor (OnePrimary (OneCall (Alone (at 8 4))))) Divide 4 (OnePrimary
-              (Numeral 2 4)))))))))))) NoActuals 4)))) NoStatements)) 4) 4
+    (OneUnconditional (MkUnconditional ([]) (Assign (record { left = OneName (at 8 2); becomes = 2 }) ([]) (OneSimple
+    (OneImplication (OneDisjunction (OneConjunction (OneNegation (OneRelation (OneArithmetic (OneTerm (Multiplied
+    (OneFactor (OnePrimary (Bracketed 2 (OneSimple (OneImplication (OneDisjunction (OneConjunction (OneNegation (OneRelation
+    (OneArithmetic (Summed (OneTerm (OneFactor (OnePrimary (Numeral 1 2)))) Add 2 (OneFactor (OnePrimary
+    (Numeral 2 2))))))))))) 2))) Multiply 2 (Raised (OnePrimary (Numeral 3 2)) 2 (Numeral 2 2))))))))))))))
+    (MoreStatements 2 (OneUnconditional (MkUnconditional ([]) (CallStatement (WithActuals (at 1 3) 3
+    (AString 3 (record { value = 97; line = 3 } ∷ record { value = 10; line = 3 } ∷ []) 4) NoActuals 4))))
+    (MoreStatements 4 (OneUnconditional (MkUnconditional ([]) (CallStatement (WithActuals (at 0 4) 4
+    (OneExpr (OneSimple (OneImplication (OneDisjunction (OneConjunction (OneNegation (OneRelation (OneArithmetic
+    (Signed Subtract 4 (Multiplied (OneFactor (OnePrimary (OneCall (Alone (at 8 4))))) Divide 4 (OnePrimary
+    (Numeral 2 4)))))))))))) NoActuals 4)))) NoStatements)) 4) 4
 
 abbrev pub sums_symbols : List Symbol
 sums_symbols = row 36 0 1 ∷ row 47 0 1 ∷ row 3 8 1 ∷ row 30 0 1 ∷ row 3 8 2 ∷ row 31 0 2 ∷ row 32 0 2 ∷ row 4 1 2 ∷ row 10 0 2
@@ -47,24 +47,25 @@ sums_symbols = row 36 0 1 ∷ row 47 0 1 ∷ row 3 8 1 ∷ row 30 0 1 ∷ row 3 
 abbrev pub loop_tree : Program
 loop_tree = MkProgram (record { name = (at 8 1); colon = 1 } ∷ [])
     (MkCompound 1
-      (OneLoop (MkLoop ([]) 2 (at 9 2) 2 (StepUntil (only (Numeral 1 2)) 2 (only (Numeral 1 2)) 2 (only (OneCall (Alone
-          (at 10 2)))))
-        (record
-          { comma = 2;
-            turns = (WhileTrue (only (OneCall (Alone (at 11 2)))) 2 (OneSimple (OneImplication (OneDisjunction (OneConjunction
-              (Both (OneNegation (Negated 2 (Compared (OneTerm (OneFactor (OnePrimary (OneCall (Alone (at 9 2)))))) LessThan 2
-              (OneTerm (OneFactor (OnePrimary (OneCall (Alone (at 11 2))))))))) 2 (OneRelation (OneArithmetic (OneTerm (OneFactor
-              (OnePrimary (Logical true 2)))))))))))) } ∷ record { comma = 2; turns = (OneValue (only (Numeral 0 2))) } ∷ []) 2
-        (OneConditional (IfElse (record { name = (at 12 3); colon = 3 } ∷ []) 3
-        (OneSimple (OneImplication (OneDisjunction (OneConjunction (OneNegation (OneRelation (Compared
-          (OneTerm (OneFactor (OnePrimary (OneElement (Subscripted (at 13 3) 3 (only (Numeral 1 3))
-            (MoreExprs 3 (only (Numeral 2 3)) NoExprs) 3))))) AtLeast 3 (OneTerm (OneFactor (OnePrimary (Numeral 0 3))))))))))) 3
-        (MkUnconditional ([]) (Assign
-          (record { left = LeftElement (Subscripted (at 14 3) 3 (only (OneCall (Alone (at 9 3)))) NoExprs 3); becomes = 3 })
-          (record { left = OneName (at 15 3); becomes = 3 } ∷ []) (IfExpr 3 (only (OneCall (Alone (at 16 3)))) 3
-          (OneImplication (OneDisjunction (OneConjunction (OneNegation (OneRelation (OneArithmetic (OneTerm (OneFactor (OnePrimary
-            (OneCall (Alone (at 17 3)))))))))))) 3 (only (OneCall (Alone (at 18 3))))))) 4 (OneUnconditional (MkUnconditional ([])
-        (Jump 4 (only (OneElement (Subscripted (at 19 4) 4 (only (OneCall (Alone (at 9 4)))) NoExprs 4)))))))))) NoStatements 4) 4
+    (OneLoop (MkLoop ([]) 2 (at 9 2) 2 (StepUntil (only (Numeral 1 2)) 2 (only (Numeral 1 2)) 2 (only (OneCall (Alone
+    (at 10 2)))))
+    (record {
+      comma = 2;
+      turns = (WhileTrue (only (OneCall (Alone (at 11 2)))) 2 (OneSimple (OneImplication (OneDisjunction (OneConjunction
+          (Both (OneNegation (Negated 2 (Compared (OneTerm (OneFactor (OnePrimary (OneCall (Alone (at 9 2)))))) LessThan 2
+          (OneTerm (OneFactor (OnePrimary (OneCall (Alone (at 11 2))))))))) 2 (OneRelation (OneArithmetic (OneTerm (OneFactor
+          (OnePrimary (Logical true 2))))))))))));
+    } ∷ record { comma = 2; turns = (OneValue (only (Numeral 0 2))) } ∷ []) 2
+    (OneConditional (IfElse (record { name = (at 12 3); colon = 3 } ∷ []) 3
+    (OneSimple (OneImplication (OneDisjunction (OneConjunction (OneNegation (OneRelation (Compared
+    (OneTerm (OneFactor (OnePrimary (OneElement (Subscripted (at 13 3) 3 (only (Numeral 1 3))
+    (MoreExprs 3 (only (Numeral 2 3)) NoExprs) 3))))) AtLeast 3 (OneTerm (OneFactor (OnePrimary (Numeral 0 3))))))))))) 3
+    (MkUnconditional ([]) (Assign
+    (record { left = LeftElement (Subscripted (at 14 3) 3 (only (OneCall (Alone (at 9 3)))) NoExprs 3); becomes = 3 })
+    (record { left = OneName (at 15 3); becomes = 3 } ∷ []) (IfExpr 3 (only (OneCall (Alone (at 16 3)))) 3
+    (OneImplication (OneDisjunction (OneConjunction (OneNegation (OneRelation (OneArithmetic (OneTerm (OneFactor (OnePrimary
+    (OneCall (Alone (at 17 3)))))))))))) 3 (only (OneCall (Alone (at 18 3))))))) 4 (OneUnconditional (MkUnconditional ([])
+    (Jump 4 (only (OneElement (Subscripted (at 19 4) 4 (only (OneCall (Alone (at 9 4)))) NoExprs 4)))))))))) NoStatements 4) 4
 
 abbrev pub loop_symbols : List Symbol
 loop_symbols = row 3 8 1 ∷ row 29 0 1 ∷ row 36 0 1 ∷ row 41 0 2 ∷ row 3 9 2 ∷ row 31 0 2 ∷ row 4 1 2 ∷ row 42 0 2 ∷ row 4 1 2
@@ -79,25 +80,28 @@ loop_symbols = row 3 8 1 ∷ row 29 0 1 ∷ row 36 0 1 ∷ row 41 0 2 ∷ row 3 
 abbrev pub declared_tree : Program
 declared_tree =
     MkProgram ([])
-      (MkBlock 1
-        (DeclareOwnArrays 1 (record { type = IntegerType; line = 1 }) 1
-          (MkFixed (MkNames (at 8 1) (record { comma = 1; name = (at 9 1) } ∷ [])) 1
-            (MkFixedPair (WithSign Subtract 1 1 1) 1 (WithSign Add 1 2 1))
-            (MoreFurther 1 (MkFixedPair (Unsigned 3 1) 1 (Unsigned 4 1)) NoFurther) 1) ([])) 1
-        (MoreDeclarations (DeclareOwn 1 (record { type = BooleanType; line = 1 }) (MkNames (at 10 1) ([]))) 1 (MoreDeclarations
-          (DeclareArrays (record { type = IntegerType; line = 2 }) 2
-            (MkSegment (MkNames (at 11 2) ([])) 2 (MkPair (only (Numeral 1 2)) 2 (only (OneCall (Alone (at 12 2))))) ([]) 2) ([]))
-          2 (MoreDeclarations (DeclareSwitch 2 (at 13 2) 2 (only (OneCall (Alone (at 14 2)))) (MoreExprs 2
-            (only (OneCall (Alone (at 15 2)))) NoExprs)) 2 (MoreDeclarations
-          (DeclareProcedure (MkHeading (Some (record { type = IntegerType; line = 3 })) 3 (at 16 3)
-              (FormalList 3 (MkNames (at 17 3) (record { comma = 3; name = (at 18 3) } ∷ [])) 3) 3
-              (ValueList 3 (MkNames (at 17 3) ([])) 3) (record { specifier = ValueSpec (record { type = IntegerType; line = 3 });
-                names = (MkNames (at 17 3) ([])); semicolon = 3 }
-              ∷ record { specifier = LabelSpec 3; names = (MkNames (at 18 3) ([])); semicolon = 3 } ∷ [])) (OneUnconditional
-            (MkUnconditional ([]) (Assign (record { left = OneName (at 16 4); becomes = 4 }) ([]) (only (OneCall (Alone
-            (at 17 4)))))))) 4 NoDeclarations))))
-        (OneUnconditional (MkUnconditional (record { name = (at 14 5); colon = 5 } ∷ record { name = (at 15 5); colon = 5 }
-            ∷ []) Dummy)) NoStatements 5) 5
+    (MkBlock 1
+    (DeclareOwnArrays 1 (record { type = IntegerType; line = 1 }) 1
+    (MkFixed (MkNames (at 8 1) (record { comma = 1; name = (at 9 1) } ∷ [])) 1
+    (MkFixedPair (WithSign Subtract 1 1 1) 1 (WithSign Add 1 2 1))
+    (MoreFurther 1 (MkFixedPair (Unsigned 3 1) 1 (Unsigned 4 1)) NoFurther) 1) ([])) 1
+    (MoreDeclarations (DeclareOwn 1 (record { type = BooleanType; line = 1 }) (MkNames (at 10 1) ([]))) 1 (MoreDeclarations
+    (DeclareArrays (record { type = IntegerType; line = 2 }) 2
+    (MkSegment (MkNames (at 11 2) ([])) 2 (MkPair (only (Numeral 1 2)) 2 (only (OneCall (Alone (at 12 2))))) ([]) 2) ([]))
+    2 (MoreDeclarations (DeclareSwitch 2 (at 13 2) 2 (only (OneCall (Alone (at 14 2)))) (MoreExprs 2
+    (only (OneCall (Alone (at 15 2)))) NoExprs)) 2 (MoreDeclarations
+    (DeclareProcedure (MkHeading (Some (record { type = IntegerType; line = 3 })) 3 (at 16 3)
+    (FormalList 3 (MkNames (at 17 3) (record { comma = 3; name = (at 18 3) } ∷ [])) 3) 3
+    (ValueList 3 (MkNames (at 17 3) ([])) 3) (record {
+      specifier = ValueSpec (record { type = IntegerType; line = 3 });
+      names = (MkNames (at 17 3) ([]));
+      semicolon = 3;
+    }
+    ∷ record { specifier = LabelSpec 3; names = (MkNames (at 18 3) ([])); semicolon = 3 } ∷ [])) (OneUnconditional
+    (MkUnconditional ([]) (Assign (record { left = OneName (at 16 4); becomes = 4 }) ([]) (only (OneCall (Alone
+    (at 17 4)))))))) 4 NoDeclarations))))
+    (OneUnconditional (MkUnconditional (record { name = (at 14 5); colon = 5 } ∷ record { name = (at 15 5); colon = 5 }
+    ∷ []) Dummy)) NoStatements 5) 5
 
 abbrev pub declared_symbols : List Symbol
 declared_symbols = row 36 0 1 ∷ row 55 0 1 ∷ row 47 0 1 ∷ row 49 0 1 ∷ row 3 8 1 ∷ row 28 0 1 ∷ row 3 9 1 ∷ row 34 0 1

@@ -87,24 +87,102 @@ abbrev pub tails_act : {T : Type 0} → (Tails → T) → Sign → (line : ℕ) 
 tails_act f SPower l = Push (WantPrimary ∷ tail_items) (λ ts. f (tails_of (record { line = l; operand = ts.0 } ∷ ts.1.0, ts.1.1)))
 tails_act f (SMultiplying o) l =
     Push (WantPrimary ∷ tail_items)
-      (λ ts. let t = shut_factor ts in f (tails_of ([], (record { operator = o; line = l; operand = t.0 } ∷ t.1.0, t.1.1))))
+    (λ ts. let t = shut_factor ts in f (tails_of ([], (record { operator = o; line = l; operand = t.0 } ∷ t.1.0, t.1.1))))
 tails_act f (SAdding o) l =
     Push (WantPrimary ∷ tail_items)
-      (λ ts. let t = shut_term ts in f (tails_of ([], ([], (record { operator = o; line = l; operand = t.0 } ∷ t.1.0, t.1.1)))))
+    (λ ts. let t = shut_term ts in f (tails_of ([], ([], (record { operator = o; line = l; operand = t.0 } ∷ t.1.0, t.1.1)))))
 tails_act f (SComparing o) l = Push (MaySign ∷ WantPrimary ∷ MayPower ∷ MayTimes ∷ MaySum ∷ MayAnd ∷ MayOr ∷ MayImpl ∷ MayEquiv
-      ∷ []) (λ ts. let t = shut_arithmetic ts in f (tails_of ([], ([], ([], (ARelation o l t.0, t.1))))))
+    ∷ []) (λ ts. let t = shut_arithmetic ts in f (tails_of ([], ([], ([], (ARelation o l t.0, t.1))))))
 tails_act f SAnd l = Push (negation_items ++ MayAnd ∷ MayOr ∷ MayImpl ∷ MayEquiv ∷ [])
-    (λ ts. let t = shut_negation ts in f (tails_of ([], ([], ([], (NoRelation, (record { line = l; operand = t.0 }
-      ∷ t.1.0, t.1.1)))))))
+    (λ ts. let t = shut_negation ts in f (tails_of (
+      [],
+      (
+        [],
+        (
+          [],
+          (
+            NoRelation,
+            (
+              record { line = l; operand = t.0 }
+                  ∷ t.1.0,
+              t.1.1,
+            ),
+          ),
+        ),
+      ),
+    )))
 tails_act f SOr l = Push (negation_items ++ MayAnd ∷ MayOr ∷ MayImpl ∷ MayEquiv ∷ [])
-    (λ ts. let t = shut_conjunction ts in f (tails_of ([], ([], ([], (NoRelation, ([], (record { line = l; operand = t.0 }
-      ∷ t.1.0, t.1.1))))))))
+    (λ ts. let t = shut_conjunction ts in f (tails_of (
+      [],
+      (
+        [],
+        (
+          [],
+          (
+            NoRelation,
+            (
+              [],
+              (
+                record { line = l; operand = t.0 }
+                    ∷ t.1.0,
+                t.1.1,
+              ),
+            ),
+          ),
+        ),
+      ),
+    )))
 tails_act f SImpl l = Push (negation_items ++ MayAnd ∷ MayOr ∷ MayImpl ∷ MayEquiv ∷ [])
-    (λ ts. let t = shut_disjunction ts in f (tails_of ([], ([], ([], (NoRelation, ([], ([], (record { line = l; operand = t.0 }
-      ∷ t.1.0, t.1.1)))))))))
+    (λ ts. let t = shut_disjunction ts in f (tails_of (
+      [],
+      (
+        [],
+        (
+          [],
+          (
+            NoRelation,
+            (
+              [],
+              (
+                [],
+                (
+                  record { line = l; operand = t.0 }
+                      ∷ t.1.0,
+                  t.1.1,
+                ),
+              ),
+            ),
+          ),
+        ),
+      ),
+    )))
 tails_act f SEquiv l = Push (negation_items ++ MayAnd ∷ MayOr ∷ MayImpl ∷ MayEquiv ∷ [])
-    (λ ts. let t = shut_implication ts in f (tails_of ([], ([], ([], (NoRelation, ([], ([], ([], (record
-      { line = l; operand = t.0 } ∷ t.1.0, tt))))))))))
+    (λ ts. let t = shut_implication ts in f (tails_of (
+      [],
+      (
+        [],
+        (
+          [],
+          (
+            NoRelation,
+            (
+              [],
+              (
+                [],
+                (
+                  [],
+                  (
+                    record
+                        { line = l; operand = t.0 } ∷ t.1.0,
+                    tt,
+                  ),
+                ),
+              ),
+            ),
+          ),
+        ),
+      ),
+    )))
 tails_act f _ l = Pass (f (tails_from [] [] [] NoRelation [] [] [] []))
 
 -- behind `:=`
@@ -325,9 +403,9 @@ act WantAfterOwnType SArray l = Push (WantFixed ∷ MayFixed ∷ []) (λ ts. Own
 act WantAfterOwnType _ l = Refuse
 act WantSegment (SName x) l =
     Push segment_items
-      (λ ts.
-        MkSegment (MkNames (name_at x l) ts.0) ts.1.0 (MkPair ts.1.1.0 ts.1.1.1.0 ts.1.1.1.1.0) ts.1.1.1.1.1.0.more
-        ts.1.1.1.1.1.0.end)
+    (λ ts.
+    MkSegment (MkNames (name_at x l) ts.0) ts.1.0 (MkPair ts.1.1.0 ts.1.1.1.0 ts.1.1.1.1.0) ts.1.1.1.1.1.0.more
+    ts.1.1.1.1.1.0.end)
 act WantSegment _ l = Refuse
 act WantPairs SComma l = Push (WantExpr ∷ Want SColon ∷ WantExpr ∷ WantPairs ∷ [])
     (λ ts. record { more = record { comma = l; pair = MkPair ts.0 ts.1.0 ts.1.1.0 } ∷ ts.1.1.1.0.more; end = ts.1.1.1.0.end })
@@ -340,9 +418,9 @@ act WantConstant (SAdding o) l = Push (WantNumber ∷ []) (λ ts. WithSign o l t
 act WantConstant _ l = Refuse
 act WantFixed (SName x) l =
     Push fixed_items
-      (λ ts.
-        MkFixed (MkNames (name_at x l) ts.0) ts.1.0 (MkFixedPair ts.1.1.0 ts.1.1.1.0 ts.1.1.1.1.0) ts.1.1.1.1.1.0.more
-        ts.1.1.1.1.1.0.end)
+    (λ ts.
+    MkFixed (MkNames (name_at x l) ts.0) ts.1.0 (MkFixedPair ts.1.1.0 ts.1.1.1.0 ts.1.1.1.1.0) ts.1.1.1.1.1.0.more
+    ts.1.1.1.1.1.0.end)
 act WantFixed _ l = Refuse
 act (WantFurther n) SComma l = further_act n l
 act (WantFurther n) SRightBracket l = Push [] (λ ts. record { more = no_further n; end = l })
@@ -372,7 +450,7 @@ act MayDeclarations SSwitch l = Push (WantName ∷ Want SBecomes ∷ WantExpr �
     (λ ts. MoreDeclarations (DeclareSwitch l ts.0 ts.1.0 ts.1.1.0 ts.1.1.1.0) ts.1.1.1.1.0 ts.1.1.1.1.1.0)
 act MayDeclarations SProcedure l = Push (procedure_items ++ Want SSemicolon ∷ MayDeclarations ∷ [])
     (λ ts. MoreDeclarations (DeclareProcedure (MkHeading None l ts.0 ts.1.0 ts.1.1.0 ts.1.1.1.0 ts.1.1.1.1.0) ts.1.1.1.1.1.0)
-      ts.1.1.1.1.1.1.0 ts.1.1.1.1.1.1.1.0)
+    ts.1.1.1.1.1.1.0 ts.1.1.1.1.1.1.1.0)
 act MayDeclarations _ l = Pass NoDeclarations
 act WantStatement (SName x) l = Push (WantAfterName ∷ []) (λ ts. named_statement (name_at x l) ts.0)
 act WantStatement SBegin l =

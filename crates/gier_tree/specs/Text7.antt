@@ -61,11 +61,11 @@ assignment_code p q qs e level w st go =
 -- goes on at the place that waits in w
 abbrev pub set_to : Placed → (variable line : ℕ) → (value : Code) → Code
 set_to x variable line value level w st go = address_of x variable st (λ s. order OKeep 0 (w + 1) line s (λ s1.
-      value level (w + 2) s1 (λ s2. order OPut 0 (w + 1) line s2 go)))
+    value level (w + 2) s1 (λ s2. order OPut 0 (w + 1) line s2 go)))
 
 abbrev pub do_next : (back line w : ℕ) → Option ℕ → State → ((s : ℕ) → Following) → List Symbol
 do_next back line w label st go = with_label OShort 0 back line st (λ s. order OKeep 0 w line s (λ s1.
-      new_unless label s1 (λ body s2. with_label OJump 0 body line s2 (go body))))
+    new_unless label s1 (λ body s2. with_label OJump 0 body line s2 (go body))))
 
 -- V + B
 abbrev pub step_value_code : Placed → (variable line : ℕ) → (step : Code) → Code
@@ -80,22 +80,22 @@ turns_code p x variable (OneValue e) level w body st go =
 turns_code p x variable (StepUntil a l b m c) level w body st go =
     let line = first_expr a in
     set_to x variable line (code_expr p a) level w st
-        (λ s. new s (λ t s1. with_label OJump 0 t line s1 (λ s2. new s2 (λ again s3. define again s3 (λ s4.
+    (λ s. new s (λ t s1. with_label OJump 0 t line s1 (λ s2. new s2 (λ again s3. define again s3 (λ s4.
     set_to x variable line (step_value_code x variable line (code_expr p b)) level w s4 (λ s5. define t s5 (λ s6.
     value_of x variable s6
-        (λ s7.
-          order OKeep 0 (w + 1) line s7
-          (λ s8. code_expr p c level (w + 2) s8 (λ s9. order OSub 0 (w + 1) line s9 (λ s10. order OKeep 0 (w + 1) line s10 (λ s11.
+    (λ s7.
+    order OKeep 0 (w + 1) line s7
+    (λ s8. code_expr p c level (w + 2) s8 (λ s9. order OSub 0 (w + 1) line s9 (λ s10. order OKeep 0 (w + 1) line s10 (λ s11.
     code_expr p b level (w + 2) s11
-        (λ s12. order OTest 0 (w + 1) line s12 (λ s13. new s13 (λ n s14. with_label OFalse 0 n line s14 (λ s15.
+    (λ s12. order OTest 0 (w + 1) line s12 (λ s13. new s13 (λ n s14. with_label OFalse 0 n line s14 (λ s15.
     do_next again line w body s15 (λ q s16. define n s16 (go q))))))))))))))))))
 turns_code p x variable (WhileTrue e l f) level w body st go =
     let line = first_expr e in
     new st
-        (λ again s.
-          define again s
-          (λ s1. set_to x variable line (code_expr p e) level w s1
-            (λ s2. code_expr p f level (w + 1) s2 (λ s3. new s3 (λ n s4. with_label OFalse 0 n line s4 (λ s5.
+    (λ again s.
+    define again s
+    (λ s1. set_to x variable line (code_expr p e) level w s1
+    (λ s2. code_expr p f level (w + 1) s2 (λ s3. new s3 (λ n s4. with_label OFalse 0 n line s4 (λ s5.
     do_next again line w body s5 (λ q s6. define n s6 (go q))))))))
 
 abbrev pub next_turns_code : Places → Placed → (variable : ℕ) → List NextTurns → (level w body : ℕ) → State
@@ -124,7 +124,7 @@ abbrev pub segment_code : Places → Segment → Code
 segment_code p (MkSegment ns l q qs m) level w st go =
     let line = first_name ns in
     pair_code p q line level w st (λ s. pairs_code p qs line level (w + 2) s (λ s1.
-          arrays_code p (list_of ns) (suc (length qs)) line w s1 go))
+    arrays_code p (list_of ns) (suc (length qs)) line w s1 go))
 
 abbrev pub segments_code : Places → List NextSegment → Code
 segments_code p [] level w st go = go st
@@ -143,29 +143,29 @@ elements_of (MoreExprs l e es) = e ∷ elements_of es
 abbrev pub switch_elements_code : Places → List ℕ → List Expr → State → Following → List Symbol
 switch_elements_code p (label ∷ labels) (e ∷ es) st go =
     define label st
-      (λ s. evaluation 2 (need_expr (scopes_of p) e) (first_expr e) (then_order OBack (first_expr e) (code_label p e)) s (λ s1.
-        switch_elements_code p labels es s1 go))
+    (λ s. evaluation 2 (need_expr (scopes_of p) e) (first_expr e) (then_order OBack (first_expr e) (code_label p e)) s (λ s1.
+    switch_elements_code p labels es s1 go))
 switch_elements_code p labels es st go = go st
 
 abbrev pub switch_declared : Places → (line : ℕ) → Name → List Expr → State → Following → List Symbol
 switch_declared p line x es st go =
     new st (λ over s. with_label OJump 0 over line s (λ s1. define (p x.number).address s1 (λ s2.
-          data_word (length es) line s2 (λ s3. table_code (length es) line s3 (λ labels s4.
-          switch_elements_code p labels es s4 (λ s5. define over s5 go))))))
+    data_word (length es) line s2 (λ s3. table_code (length es) line s3 (λ labels s4.
+    switch_elements_code p labels es s4 (λ s5. define over s5 go))))))
 
 -- a procedure: its body stands behind a jump
 abbrev pub procedure_declared : Places → (level need line : ℕ) → Heading → (body : Code) → State → Following → List Symbol
 procedure_declared p level need line (MkHeading t l x fs m vs ss) body st go =
     let h = MkHeading t l x fs m vs ss in
     new st
-        (λ over s.
-          with_label OJump 0 over line s
-          (λ s1.
-            define (p x.number).address s1
-            (λ s2. room_order OProc level (procedure_words h) line s2
-              (λ s3. data_word (2 * length (formals_of h) + result_words t) line s3 (λ s4.
+    (λ over s.
+    with_label OJump 0 over line s
+    (λ s1.
+    define (p x.number).address s1
+    (λ s2. room_order OProc level (procedure_words h) line s2
+    (λ s3. data_word (2 * length (formals_of h) + result_words t) line s3 (λ s4.
     body level (procedure_words h) s4 (λ s5. order OReturn 0 (result_words t) line s5 (λ s6. needs need s6 (λ s7.
-          define over s7 go))))))))
+    define over s7 go))))))))
 
 -- conditional statements
 abbrev pub if_code : (line : ℕ) → (test so : Code) → Code
@@ -174,15 +174,15 @@ if_code line test so level w st go =
 
 abbrev pub if_else_code : (line : ℕ) → (test so otherwise : Code) → Code
 if_else_code line test so otherwise level w st go = test level w st (λ s. new s (λ x s1. with_label OFalse 0 x line s1 (λ s2.
-      so level w s2 (λ s3. new s3 (λ y s4. with_label OJump 0 y line s4 (λ s5. define x s5 (λ s6. otherwise level w s6 (λ s7.
-      define y s7 go))))))))
+    so level w s2 (λ s3. new s3 (λ y s4. with_label OJump 0 y line s4 (λ s5. define x s5 (λ s6. otherwise level w s6 (λ s7.
+    define y s7 go))))))))
 
 -- a for statement: its elements, and the controlled statement, which returns to where its turn came from
 abbrev pub for_code : Places → (line : ℕ) → Name → Turns → List NextTurns → (body : Code) → Code
 for_code p line x t ts body level w st go =
     turns_code p (p x.number) x.line t level w None st
-        (λ b s. next_turns_code p (p x.number) x.line ts level w b s
-          (λ c s1. new s1 (λ end s2. with_label OJump 0 end line s2 (λ s3. define c s3 (λ s4.
+    (λ b s. next_turns_code p (p x.number) x.line ts level w b s
+    (λ c s1. new s1 (λ end s2. with_label OJump 0 end line s2 (λ s3. define c s3 (λ s4.
     body level (w + 1) s4 (λ s5. order OTurn 0 w line s5 (λ s6. define end s6 go)))))))
 
 abbrev pub block_code : (level need line words : ℕ) → (inside : Code) → State → Following → List Symbol
@@ -199,7 +199,7 @@ abbrev mutual
   code_declaration p at (DeclareProcedure h s) =
       let q = procedure_places (suc at.level) at.numbers h s p in
       λ level w st go. procedure_declared p (suc at.level) (need_statement (scopes_of q) s) (first_heading h) h
-          (code_statement q (inner at (procedure_entries h s)) s) st go
+      (code_statement q (inner at (procedure_entries h s)) s) st go
 
   pub code_declarations : Places → Where → Declarations → Code
   code_declarations p at NoDeclarations = no_code
@@ -213,8 +213,8 @@ abbrev mutual
       let w2 = behind_declaration w1 d in
       let w3 = behind_declarations w2 ds in
       let inside =
-          also (code_declaration q w1 d) (also (code_declarations q w2 ds) (also (code_statement q w3 s) (code_statements q
-              (behind_statement w3 s) ss))) in
+      also (code_declaration q w1 d) (also (code_declarations q w2 ds) (also (code_statement q w3 s) (code_statements q
+      (behind_statement w3 s) ss))) in
       λ level w st go. block_code (suc at.level) (need_block (scopes_of q) d ds s ss) l (block_words d ds) inside st go
   code_group p at (MkCompound l s ss n) = also (code_statement p at s) (code_statements p (behind_statement at s) ss)
 
@@ -241,13 +241,13 @@ abbrev mutual
   code_conditional p at (IfThen ls l e m u) = also (labels_code p ls) (if_code l (code_expr p e) (code_unconditional p at u))
   code_conditional p at (IfElse ls l e m u n s) =
       also (labels_code p ls) (if_else_code l (code_expr p e) (code_unconditional p at u) (code_statement p
-          (further at (numbers_unconditional u) (owns_in_unconditional u)) s))
+      (further at (numbers_unconditional u) (owns_in_unconditional u)) s))
   code_conditional p at (IfLoop ls l e m f) = also (labels_code p ls) (if_code l (code_expr p e) (code_loop p at f))
 
   pub code_loop : Places → Where → Loop → Code
   code_loop p at (MkLoop ls l x m t ts n s) =
       also (labels_code p ls) (for_code p l x t ts (code_statement (turn_places at.level at.numbers s p)
-          (further at (entries_numbers (turn_entries s)) 0) s))
+      (further at (entries_numbers (turn_entries s)) 0) s))
 
 abbrev pub object_words : Following
 object_words st = sym ObjectWords st.words st.line ∷ []
@@ -259,8 +259,8 @@ code_program (MkProgram ls g l) =
     let line = group_begin g in
     room_order OStart 1 block_header line (record { labels = 0; line = line; words = 0 })
     (λ s.
-          also (labels_code p ls) (code_group p (record { level = 1; numbers = entries_numbers (program_entries t); owns = 0 }) g)
-          1 block_header s
+    also (labels_code p ls) (code_group p (record { level = 1; numbers = entries_numbers (program_entries t); owns = 0 }) g)
+    1 block_header s
     (λ s1. order OStop 0 0 line s1 (λ s2. needs (need_group (scopes_of p) g) s2 object_words)))
 
 abbrev pub text7 : (written : Program) → List Symbol

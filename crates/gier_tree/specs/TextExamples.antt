@@ -20,21 +20,21 @@ use Rattle.gier_tree.specs.TextsOf.{text3, text4, text5, text6}
 abbrev pub text_sums : Program
 text_sums =
     MkProgram ([])
-      (MkBlock 1 (DeclareType (record { type = IntegerType; line = 1 }) (MkNames (at 8 1) (record { comma = 1; name = (at 9 1) }
-          ∷ []))) 1 NoDeclarations
-        (OneUnconditional (MkUnconditional ([]) (Assign (record { left = OneName (at 8 2); becomes = 2 })
-          (record { left = OneName (at 9 2); becomes = 2 } ∷ []) (OneSimple (OneImplication (OneDisjunction (OneConjunction
-          (OneNegation (OneRelation (OneArithmetic (Summed (Signed Subtract 2 (OneFactor (OnePrimary (Numeral 1 2)))) Add 2
-          (Multiplied (OneFactor (OnePrimary (Numeral 2 2))) Multiply 2 (OnePrimary (Bracketed 2
-          (OneSimple (OneImplication (OneDisjunction (OneConjunction (OneNegation (OneRelation (OneArithmetic (Summed
-            (OneTerm (OneFactor (OnePrimary (OneCall (Alone (at 8 2)))))) Subtract 2 (OneFactor (OnePrimary (OneCall (Alone
-            (at 9 2))))))))))))) 2))))))))))))))
-        (MoreStatements 3 (OneUnconditional (MkUnconditional ([]) (CallStatement (WithActuals (at 0 3) 3
-            (OneExpr (OneSimple (OneImplication (OneDisjunction (OneConjunction (OneNegation (OneRelation (OneArithmetic (OneTerm
-              (Multiplied (OneFactor (Raised (OnePrimary (OneCall (Alone (at 8 3)))) 3 (Numeral 2 3))) Divide 3 (OnePrimary
-              (Numeral 3 3)))))))))))) NoActuals 3)))) (MoreStatements 3
-          (OneUnconditional (MkUnconditional ([]) (CallStatement (WithActuals (at 1 3) 3
-            (AString 3 (record { value = 120; line = 3 } ∷ []) 3) NoActuals 3)))) NoStatements)) 3) 3
+    (MkBlock 1 (DeclareType (record { type = IntegerType; line = 1 }) (MkNames (at 8 1) (record { comma = 1; name = (at 9 1) }
+    ∷ []))) 1 NoDeclarations
+    (OneUnconditional (MkUnconditional ([]) (Assign (record { left = OneName (at 8 2); becomes = 2 })
+    (record { left = OneName (at 9 2); becomes = 2 } ∷ []) (OneSimple (OneImplication (OneDisjunction (OneConjunction
+    (OneNegation (OneRelation (OneArithmetic (Summed (Signed Subtract 2 (OneFactor (OnePrimary (Numeral 1 2)))) Add 2
+    (Multiplied (OneFactor (OnePrimary (Numeral 2 2))) Multiply 2 (OnePrimary (Bracketed 2
+    (OneSimple (OneImplication (OneDisjunction (OneConjunction (OneNegation (OneRelation (OneArithmetic (Summed
+    (OneTerm (OneFactor (OnePrimary (OneCall (Alone (at 8 2)))))) Subtract 2 (OneFactor (OnePrimary (OneCall (Alone
+    (at 9 2))))))))))))) 2))))))))))))))
+    (MoreStatements 3 (OneUnconditional (MkUnconditional ([]) (CallStatement (WithActuals (at 0 3) 3
+    (OneExpr (OneSimple (OneImplication (OneDisjunction (OneConjunction (OneNegation (OneRelation (OneArithmetic (OneTerm
+    (Multiplied (OneFactor (Raised (OnePrimary (OneCall (Alone (at 8 3)))) 3 (Numeral 2 3))) Divide 3 (OnePrimary
+    (Numeral 3 3)))))))))))) NoActuals 3)))) (MoreStatements 3
+    (OneUnconditional (MkUnconditional ([]) (CallStatement (WithActuals (at 1 3) 3
+    (AString 3 (record { value = 120; line = 3 } ∷ []) 3) NoActuals 3)))) NoStatements)) 3) 3
 
 abbrev pub text_sums_3 : List Symbol
 text_sums_3 = row 67 1 1 ∷ row 67 2 1 ∷ row 36 0 1 ∷ row 67 4 1 ∷ row 47 0 1 ∷ row 63 8 1 ∷ row 28 0 1 ∷ row 63 9 1 ∷ row 68 4 1
@@ -74,25 +74,27 @@ text_sums_6 = row 67 1 1 ∷ row 67 2 1 ∷ row 69 8 1 ∷ row 70 1 1 ∷ row 69
 abbrev pub text_labels : Program
 text_labels = MkProgram (record { name = (at 8 1); colon = 1 } ∷ [])
     (MkBlock 1 (DeclareType (record { type = IntegerType; line = 2 }) (MkNames (at 9 2) ([]))) 2 NoDeclarations
-      (OneLoop (MkLoop (record { name = (at 10 3); colon = 3 } ∷ []) 3 (at 9 3) 3 (OneValue (only (Numeral 1 3)))
-        (record { comma = 3; turns = (StepUntil (only (Numeral 2 3)) 3 (only (OneCall (Alone (at 9 3)))) 3 (only (Numeral 3 3))) }
-          ∷ record { comma = 3;
-            turns = (WhileTrue (only (OneCall (Alone (at 9 3)))) 3 (OneSimple (OneImplication (OneDisjunction (OneConjunction
-              (OneNegation (OneRelation (Compared (OneTerm (OneFactor (OnePrimary (OneCall (Alone (at 9 3)))))) LessThan 3
-              (OneTerm (OneFactor (OnePrimary (Numeral 4 3)))))))))))) } ∷ []) 3 (OneUnconditional (MkUnconditional
-        (record { name = (at 11 5); colon = 5 } ∷ []) Dummy))))
-      (MoreStatements 5
-        (OneConditional (IfElse ([]) 6 (OneSimple (OneImplication (OneDisjunction (OneConjunction (OneNegation (OneRelation
-            (Compared (OneTerm (OneFactor (OnePrimary (OneCall (Alone (at 9 6)))))) EqualTo 6 (OneTerm (OneFactor (OnePrimary
-            (Numeral 1 6))))))))))) 6 (MkUnconditional ([]) Dummy) 7 (OneUnconditional (MkUnconditional ([]) (Jump 7 (only
-          (OneCall (Alone (at 8 7))))))))) (MoreStatements 7
-        (OneConditional (IfLoop ([]) 8
-          (OneSimple (OneImplication (OneDisjunction (OneConjunction (Both
-            (OneNegation (Negated 8 (Compared (OneTerm (OneFactor (OnePrimary (OneCall (Alone (at 9 8)))))) AtLeast 8 (OneTerm
-              (OneFactor (OnePrimary (Numeral 2 8))))))) 8 (OneRelation (OneArithmetic (OneTerm (OneFactor (OnePrimary
-            (Logical true 8))))))))))) 8 (MkLoop ([]) 8 (at 9 8) 8 (OneValue (only (Numeral 5 8))) ([]) 8 (OneUnconditional
-          (MkUnconditional ([]) Dummy))))) (MoreStatements 8
-        (OneUnconditional (MkUnconditional (record { name = (at 12 8); colon = 8 } ∷ []) Dummy)) NoStatements))) 8) 9
+    (OneLoop (MkLoop (record { name = (at 10 3); colon = 3 } ∷ []) 3 (at 9 3) 3 (OneValue (only (Numeral 1 3)))
+    (record { comma = 3; turns = (StepUntil (only (Numeral 2 3)) 3 (only (OneCall (Alone (at 9 3)))) 3 (only (Numeral 3 3))) }
+    ∷ record {
+      comma = 3;
+      turns = (WhileTrue (only (OneCall (Alone (at 9 3)))) 3 (OneSimple (OneImplication (OneDisjunction (OneConjunction
+          (OneNegation (OneRelation (Compared (OneTerm (OneFactor (OnePrimary (OneCall (Alone (at 9 3)))))) LessThan 3
+          (OneTerm (OneFactor (OnePrimary (Numeral 4 3))))))))))));
+    } ∷ []) 3 (OneUnconditional (MkUnconditional
+    (record { name = (at 11 5); colon = 5 } ∷ []) Dummy))))
+    (MoreStatements 5
+    (OneConditional (IfElse ([]) 6 (OneSimple (OneImplication (OneDisjunction (OneConjunction (OneNegation (OneRelation
+    (Compared (OneTerm (OneFactor (OnePrimary (OneCall (Alone (at 9 6)))))) EqualTo 6 (OneTerm (OneFactor (OnePrimary
+    (Numeral 1 6))))))))))) 6 (MkUnconditional ([]) Dummy) 7 (OneUnconditional (MkUnconditional ([]) (Jump 7 (only
+    (OneCall (Alone (at 8 7))))))))) (MoreStatements 7
+    (OneConditional (IfLoop ([]) 8
+    (OneSimple (OneImplication (OneDisjunction (OneConjunction (Both
+    (OneNegation (Negated 8 (Compared (OneTerm (OneFactor (OnePrimary (OneCall (Alone (at 9 8)))))) AtLeast 8 (OneTerm
+    (OneFactor (OnePrimary (Numeral 2 8))))))) 8 (OneRelation (OneArithmetic (OneTerm (OneFactor (OnePrimary
+    (Logical true 8))))))))))) 8 (MkLoop ([]) 8 (at 9 8) 8 (OneValue (only (Numeral 5 8))) ([]) 8 (OneUnconditional
+    (MkUnconditional ([]) Dummy))))) (MoreStatements 8
+    (OneUnconditional (MkUnconditional (record { name = (at 12 8); colon = 8 } ∷ []) Dummy)) NoStatements))) 8) 9
 
 abbrev pub text_labels_3 : List Symbol
 text_labels_3 = row 67 1 1 ∷ row 63 8 1 ∷ row 62 0 1 ∷ row 67 2 1 ∷ row 36 0 1 ∷ row 67 4 2 ∷ row 47 0 2 ∷ row 63 9 2 ∷ row 68 4 2
@@ -151,29 +153,31 @@ text_labels_6 = row 67 1 1 ∷ row 69 8 1 ∷ row 70 5 1 ∷ row 63 8 1 ∷ row 
 abbrev pub text_arrays : Program
 text_arrays =
     MkProgram ([])
-      (MkBlock 1
-        (DeclareArrays (record { type = BooleanType; line = 1 }) 1
-          (MkSegment (MkNames (at 8 1) (record { comma = 1; name = (at 9 1) } ∷ [])) 1
-            (MkPair (only (Numeral 1 1)) 1 (only (Numeral 2 1))) ([]) 1) (record
-          { comma = 1;
-            segment = (MkSegment (MkNames (at 10 1) ([])) 1
-              (MkPair (OneSimple (OneImplication (OneDisjunction (OneConjunction (OneNegation (OneRelation (OneArithmetic
-                (Signed Subtract 1 (OneFactor (OnePrimary (Numeral 1 1))))))))))) 1 (only (Numeral 2 1)))
-              (record { comma = 1; pair = (MkPair (only (Numeral 3 2)) 2 (only (Numeral 4 2))) } ∷ []) 2) } ∷ [])) 2
-        (MoreDeclarations (DeclareSwitch 2 (at 11 2) 2 (only (OneCall (Alone (at 12 2)))) (MoreExprs 2
-            (IfExpr 2 (only (OneElement (Subscripted (at 8 2) 2 (only (Numeral 1 2)) NoExprs 2))) 2
-              (OneImplication (OneDisjunction (OneConjunction (OneNegation (OneRelation (OneArithmetic (OneTerm (OneFactor
-                (OnePrimary (OneElement (Subscripted (at 11 2) 2 (only (Numeral 1 2)) NoExprs 2))))))))))) 2 (only (OneCall (Alone
-              (at 13 2))))) NoExprs)) 2 NoDeclarations)
-        (OneUnconditional (MkUnconditional (record { name = (at 12 3); colon = 3 } ∷ []) (Assign
-          (record { left = LeftElement (Subscripted (at 8 3) 3 (only (Numeral 1 3)) NoExprs 3); becomes = 3 })
-          (record
-            { left = LeftElement (Subscripted (at 10 3) 3 (only (Numeral 2 3)) (MoreExprs 3 (only (Numeral 3 3)) NoExprs) 3);
-              becomes = 3 } ∷ []) (only (OneElement (Subscripted (at 9 3) 3
-          (OneSimple (OneImplication (OneDisjunction (OneConjunction (OneNegation (OneRelation (OneArithmetic (Summed
-            (OneTerm (OneFactor (OnePrimary (Numeral 1 3)))) Add 3 (OneFactor (OnePrimary (Numeral 1 4))))))))))) NoExprs 4))))))
-        (MoreStatements 4 (OneUnconditional (MkUnconditional (record { name = (at 13 5); colon = 5 } ∷ []) (Jump 5 (only
-            (OneElement (Subscripted (at 11 5) 5 (only (Numeral 2 5)) NoExprs 5)))))) NoStatements) 5) 5
+    (MkBlock 1
+    (DeclareArrays (record { type = BooleanType; line = 1 }) 1
+    (MkSegment (MkNames (at 8 1) (record { comma = 1; name = (at 9 1) } ∷ [])) 1
+    (MkPair (only (Numeral 1 1)) 1 (only (Numeral 2 1))) ([]) 1) (record {
+      comma = 1;
+      segment = (MkSegment (MkNames (at 10 1) ([])) 1
+          (MkPair (OneSimple (OneImplication (OneDisjunction (OneConjunction (OneNegation (OneRelation (OneArithmetic
+          (Signed Subtract 1 (OneFactor (OnePrimary (Numeral 1 1))))))))))) 1 (only (Numeral 2 1)))
+          (record { comma = 1; pair = (MkPair (only (Numeral 3 2)) 2 (only (Numeral 4 2))) } ∷ []) 2);
+    } ∷ [])) 2
+    (MoreDeclarations (DeclareSwitch 2 (at 11 2) 2 (only (OneCall (Alone (at 12 2)))) (MoreExprs 2
+    (IfExpr 2 (only (OneElement (Subscripted (at 8 2) 2 (only (Numeral 1 2)) NoExprs 2))) 2
+    (OneImplication (OneDisjunction (OneConjunction (OneNegation (OneRelation (OneArithmetic (OneTerm (OneFactor
+    (OnePrimary (OneElement (Subscripted (at 11 2) 2 (only (Numeral 1 2)) NoExprs 2))))))))))) 2 (only (OneCall (Alone
+    (at 13 2))))) NoExprs)) 2 NoDeclarations)
+    (OneUnconditional (MkUnconditional (record { name = (at 12 3); colon = 3 } ∷ []) (Assign
+    (record { left = LeftElement (Subscripted (at 8 3) 3 (only (Numeral 1 3)) NoExprs 3); becomes = 3 })
+    (record {
+      left = LeftElement (Subscripted (at 10 3) 3 (only (Numeral 2 3)) (MoreExprs 3 (only (Numeral 3 3)) NoExprs) 3);
+      becomes = 3;
+    } ∷ []) (only (OneElement (Subscripted (at 9 3) 3
+    (OneSimple (OneImplication (OneDisjunction (OneConjunction (OneNegation (OneRelation (OneArithmetic (Summed
+    (OneTerm (OneFactor (OnePrimary (Numeral 1 3)))) Add 3 (OneFactor (OnePrimary (Numeral 1 4))))))))))) NoExprs 4))))))
+    (MoreStatements 4 (OneUnconditional (MkUnconditional (record { name = (at 13 5); colon = 5 } ∷ []) (Jump 5 (only
+    (OneElement (Subscripted (at 11 5) 5 (only (Numeral 2 5)) NoExprs 5)))))) NoStatements) 5) 5
 
 abbrev pub text_arrays_3 : List Symbol
 text_arrays_3 = row 67 1 1 ∷ row 67 2 1 ∷ row 36 0 1 ∷ row 48 0 1 ∷ row 49 0 1 ∷ row 67 5 1 ∷ row 63 8 1 ∷ row 28 0 1 ∷ row 63 9 1
@@ -247,48 +251,54 @@ text_arrays_6 = row 67 1 1 ∷ row 67 2 1 ∷ row 69 8 1 ∷ row 70 4 1 ∷ row 
 -- procedures and their calls
 abbrev pub text_calls : Program
 text_calls = MkProgram ([]) (MkBlock 1 (DeclareType (record { type = IntegerType; line = 1 }) (MkNames (at 8 1) ([]))) 1
-      (MoreDeclarations
-        (DeclareProcedure (MkHeading (Some (record { type = IntegerType; line = 1 })) 1 (at 9 1) NoFormals 1 NoValues ([]))
-          (OneUnconditional (MkUnconditional ([]) (Assign (record { left = OneName (at 9 1); becomes = 1 }) ([]) (only
-          (Numeral 1 1)))))) 1 (MoreDeclarations
-        (DeclareProcedure
-          (MkHeading None 2 (at 10 2)
-            (FormalList 2 (MkNames (at 11 2) (record { comma = 2; name = (at 12 2) } ∷ record { comma = 2; name = (at 13 2) }
-              ∷ record { comma = 2; name = (at 14 2) } ∷ record { comma = 2; name = (at 15 2) }
-              ∷ record { comma = 2; name = (at 16 2) } ∷ record { comma = 2; name = (at 17 2) } ∷ [])) 2) 2
-            (ValueList 2 (MkNames (at 11 2) ([])) 2) (record { specifier = ValueSpec (record { type = IntegerType; line = 2 });
-              names = (MkNames (at 11 2) (record { comma = 2; name = (at 12 2) } ∷ [])); semicolon = 2 }
-            ∷ record { specifier = ArraySpec (record { type = IntegerType; line = 2 }) 2; names = (MkNames (at 13 2) ([]));
-              semicolon = 2 } ∷ record { specifier = LabelSpec 2; names = (MkNames (at 14 2) ([])); semicolon = 2 }
-            ∷ record { specifier = SwitchSpec 2; names = (MkNames (at 15 2) ([])); semicolon = 2 }
-            ∷ record { specifier = StringSpec 3; names = (MkNames (at 16 3) ([])); semicolon = 3 }
-            ∷ record { specifier = ProcedureSpec 3; names = (MkNames (at 17 3) ([])); semicolon = 3 } ∷ [])) (OneUnconditional
-          (MkUnconditional ([]) (OneGroup (MkCompound 3
-          (OneUnconditional (MkUnconditional ([]) (CallStatement (WithActuals (at 17 3) 3
-            (OneExpr (only (OneCall (Alone (at 11 3))))) (MoreActuals 3 (OneExpr (only (OneCall (Alone (at 9 3))))) (MoreActuals 3
-              (OneExpr (only (OneCall (Alone (at 4 3))))) (MoreActuals 3 (OneExpr (only (OneCall (Alone (at 16 3))))) NoActuals)))
-            3)))) (MoreStatements 3 (OneUnconditional (MkUnconditional ([]) (CallStatement (Alone (at 17 3))))) (MoreStatements 3
-            (OneUnconditional (MkUnconditional ([]) (CallStatement (WithActuals (at 1 3) 3
-              (OneExpr (only (OneCall (Alone (at 16 3))))) NoActuals 3)))) (MoreStatements 3
-            (OneUnconditional (MkUnconditional ([]) Dummy)) NoStatements))) 3))))) 3 (MoreDeclarations
-        (DeclareProcedure (MkHeading None 4 (at 18 4) NoFormals 4 NoValues ([])) (OneUnconditional (MkUnconditional ([]) Dummy)))
-        4 (MoreDeclarations
-        (DeclareArrays (record { type = IntegerType; line = 4 }) 4
-          (MkSegment (MkNames (at 19 4) ([])) 4 (MkPair (only (Numeral 1 4)) 4 (only (Numeral 2 4))) ([]) 4) ([])) 4
-        (MoreDeclarations (DeclareSwitch 4 (at 20 4) 4 (only (OneCall (Alone (at 21 4)))) NoExprs) 4 NoDeclarations)))))
-      (OneUnconditional (MkUnconditional ([]) (Assign (record { left = OneName (at 8 5); becomes = 5 }) ([]) (OneSimple
-        (OneImplication (OneDisjunction (OneConjunction (OneNegation (OneRelation (OneArithmetic (Summed
-        (Summed (OneTerm (OneFactor (OnePrimary (OneCall (Alone (at 9 5)))))) Add 5 (OneFactor (OnePrimary (Bracketed 5
-          (only (OneCall (Alone (at 9 5)))) 5)))) Add 5 (OneFactor (OnePrimary (OneCall (Alone (at 4 5))))))))))))))))
-      (MoreStatements 5 (OneUnconditional (MkUnconditional ([]) (CallStatement (WithActuals (at 10 5) 5
-          (OneExpr (only (OneCall (Alone (at 9 5))))) (MoreActuals 5 (OneExpr (only (OneCall (Alone (at 9 5))))) (MoreActuals 5
-            (OneExpr (only (OneCall (Alone (at 19 5))))) (MoreActuals 5 (OneExpr (only (OneCall (Alone (at 21 5)))))
-            (MoreActuals 5 (OneExpr (only (OneCall (Alone (at 20 5))))) (MoreActuals 5
-            (AString 5 (record { value = 121; line = 5 } ∷ []) 5) (MoreActuals 5
-            (OneExpr (only (OneCall (Alone (at 18 5))))) NoActuals)))))) 5)))) (MoreStatements 5
-        (OneUnconditional (MkUnconditional ([]) (CallStatement (Alone (at 9 5))))) (MoreStatements 5
-        (OneUnconditional (MkUnconditional ([]) (CallStatement (Alone (at 18 5))))) (MoreStatements 5
-        (OneUnconditional (MkUnconditional (record { name = (at 21 5); colon = 5 } ∷ []) Dummy)) NoStatements)))) 5) 5
+    (MoreDeclarations
+    (DeclareProcedure (MkHeading (Some (record { type = IntegerType; line = 1 })) 1 (at 9 1) NoFormals 1 NoValues ([]))
+    (OneUnconditional (MkUnconditional ([]) (Assign (record { left = OneName (at 9 1); becomes = 1 }) ([]) (only
+    (Numeral 1 1)))))) 1 (MoreDeclarations
+    (DeclareProcedure
+    (MkHeading None 2 (at 10 2)
+    (FormalList 2 (MkNames (at 11 2) (record { comma = 2; name = (at 12 2) } ∷ record { comma = 2; name = (at 13 2) }
+    ∷ record { comma = 2; name = (at 14 2) } ∷ record { comma = 2; name = (at 15 2) }
+    ∷ record { comma = 2; name = (at 16 2) } ∷ record { comma = 2; name = (at 17 2) } ∷ [])) 2) 2
+    (ValueList 2 (MkNames (at 11 2) ([])) 2) (record {
+      specifier = ValueSpec (record { type = IntegerType; line = 2 });
+      names = (MkNames (at 11 2) (record { comma = 2; name = (at 12 2) } ∷ []));
+      semicolon = 2;
+    }
+    ∷ record {
+      specifier = ArraySpec (record { type = IntegerType; line = 2 }) 2;
+      names = (MkNames (at 13 2) ([]));
+      semicolon = 2;
+    } ∷ record { specifier = LabelSpec 2; names = (MkNames (at 14 2) ([])); semicolon = 2 }
+    ∷ record { specifier = SwitchSpec 2; names = (MkNames (at 15 2) ([])); semicolon = 2 }
+    ∷ record { specifier = StringSpec 3; names = (MkNames (at 16 3) ([])); semicolon = 3 }
+    ∷ record { specifier = ProcedureSpec 3; names = (MkNames (at 17 3) ([])); semicolon = 3 } ∷ [])) (OneUnconditional
+    (MkUnconditional ([]) (OneGroup (MkCompound 3
+    (OneUnconditional (MkUnconditional ([]) (CallStatement (WithActuals (at 17 3) 3
+    (OneExpr (only (OneCall (Alone (at 11 3))))) (MoreActuals 3 (OneExpr (only (OneCall (Alone (at 9 3))))) (MoreActuals 3
+    (OneExpr (only (OneCall (Alone (at 4 3))))) (MoreActuals 3 (OneExpr (only (OneCall (Alone (at 16 3))))) NoActuals)))
+    3)))) (MoreStatements 3 (OneUnconditional (MkUnconditional ([]) (CallStatement (Alone (at 17 3))))) (MoreStatements 3
+    (OneUnconditional (MkUnconditional ([]) (CallStatement (WithActuals (at 1 3) 3
+    (OneExpr (only (OneCall (Alone (at 16 3))))) NoActuals 3)))) (MoreStatements 3
+    (OneUnconditional (MkUnconditional ([]) Dummy)) NoStatements))) 3))))) 3 (MoreDeclarations
+    (DeclareProcedure (MkHeading None 4 (at 18 4) NoFormals 4 NoValues ([])) (OneUnconditional (MkUnconditional ([]) Dummy)))
+    4 (MoreDeclarations
+    (DeclareArrays (record { type = IntegerType; line = 4 }) 4
+    (MkSegment (MkNames (at 19 4) ([])) 4 (MkPair (only (Numeral 1 4)) 4 (only (Numeral 2 4))) ([]) 4) ([])) 4
+    (MoreDeclarations (DeclareSwitch 4 (at 20 4) 4 (only (OneCall (Alone (at 21 4)))) NoExprs) 4 NoDeclarations)))))
+    (OneUnconditional (MkUnconditional ([]) (Assign (record { left = OneName (at 8 5); becomes = 5 }) ([]) (OneSimple
+    (OneImplication (OneDisjunction (OneConjunction (OneNegation (OneRelation (OneArithmetic (Summed
+    (Summed (OneTerm (OneFactor (OnePrimary (OneCall (Alone (at 9 5)))))) Add 5 (OneFactor (OnePrimary (Bracketed 5
+    (only (OneCall (Alone (at 9 5)))) 5)))) Add 5 (OneFactor (OnePrimary (OneCall (Alone (at 4 5))))))))))))))))
+    (MoreStatements 5 (OneUnconditional (MkUnconditional ([]) (CallStatement (WithActuals (at 10 5) 5
+    (OneExpr (only (OneCall (Alone (at 9 5))))) (MoreActuals 5 (OneExpr (only (OneCall (Alone (at 9 5))))) (MoreActuals 5
+    (OneExpr (only (OneCall (Alone (at 19 5))))) (MoreActuals 5 (OneExpr (only (OneCall (Alone (at 21 5)))))
+    (MoreActuals 5 (OneExpr (only (OneCall (Alone (at 20 5))))) (MoreActuals 5
+    (AString 5 (record { value = 121; line = 5 } ∷ []) 5) (MoreActuals 5
+    (OneExpr (only (OneCall (Alone (at 18 5))))) NoActuals)))))) 5)))) (MoreStatements 5
+    (OneUnconditional (MkUnconditional ([]) (CallStatement (Alone (at 9 5))))) (MoreStatements 5
+    (OneUnconditional (MkUnconditional ([]) (CallStatement (Alone (at 18 5))))) (MoreStatements 5
+    (OneUnconditional (MkUnconditional (record { name = (at 21 5); colon = 5 } ∷ []) Dummy)) NoStatements)))) 5) 5
 
 abbrev pub text_calls_3 : List Symbol
 text_calls_3 = row 67 1 1 ∷ row 67 2 1 ∷ row 36 0 1 ∷ row 67 4 1 ∷ row 47 0 1 ∷ row 63 8 1 ∷ row 68 4 1 ∷ row 30 0 1 ∷ row 67 7 1
@@ -406,27 +416,30 @@ text_calls_6 = row 67 1 1 ∷ row 67 2 1 ∷ row 69 8 1 ∷ row 70 1 1 ∷ row 6
 -- own quantities
 abbrev pub text_own : Program
 text_own = MkProgram ([]) (MkBlock 1 (DeclareType (record { type = IntegerType; line = 1 }) (MkNames (at 8 1) ([]))) 1
-      (MoreDeclarations (DeclareOwn 1 (record { type = IntegerType; line = 1 }) (MkNames (at 9 1) (record
-          { comma = 1; name = (at 10 1) } ∷ []))) 1 (MoreDeclarations
-        (DeclareOwnArrays 1 (record { type = BooleanType; line = 1 }) 1
-          (MkFixed (MkNames (at 11 1) (record { comma = 1; name = (at 12 1) } ∷ [])) 1
-            (MkFixedPair (Unsigned 1 1) 1 (Unsigned 2 1))
-            (MoreFurther 1 (MkFixedPair (WithSign Subtract 1 3 1) 1 (WithSign Add 1 4 1)) NoFurther) 1) (record
-          { comma = 1; segment = (MkFixed (MkNames (at 13 1) ([])) 1 (MkFixedPair (Unsigned 0 1) 1 (Unsigned 1 1)) NoFurther 1) }
-          ∷ [])) 1 (MoreDeclarations (DeclareProcedure (MkHeading None 2 (at 14 2) NoFormals 2 NoValues ([])) (OneUnconditional
-          (MkUnconditional ([]) (OneGroup (MkBlock 2 (DeclareOwn 2 (record { type = BooleanType; line = 2 }) (MkNames (at 10 2)
-            ([]))) 2 NoDeclarations
-          (OneUnconditional (MkUnconditional ([]) (Assign (record { left = OneName (at 10 2); becomes = 2 }) ([]) (only
-            (OneElement (Subscripted (at 11 2) 2 (only (Numeral 1 2)) (MoreExprs 2 (only (Numeral 2 2)) NoExprs) 2))))))
-          NoStatements 2))))) 2 NoDeclarations))) (OneUnconditional (MkUnconditional (record { name = (at 15 3); colon = 3 } ∷ [])
-        (Assign (record { left = OneName (at 9 3); becomes = 3 }) ([]) (OneSimple (OneImplication (OneDisjunction (OneConjunction
-        (OneNegation (OneRelation (OneArithmetic (Summed (OneTerm (OneFactor (OnePrimary (OneCall (Alone (at 10 3)))))) Add 3
-        (OneFactor (OnePrimary (OneCall (Alone (at 8 3))))))))))))))))
-      (MoreStatements 3
-        (OneUnconditional (MkUnconditional ([]) (Assign
-          (record { left = LeftElement
-            (Subscripted (at 11 3) 3 (only (Numeral 1 3)) (MoreExprs 3 (only (Numeral 2 3)) NoExprs) 3); becomes = 3 }) ([]) (only
-          (OneElement (Subscripted (at 13 3) 3 (only (Numeral 0 3)) NoExprs 3)))))) NoStatements) 3) 3
+    (MoreDeclarations (DeclareOwn 1 (record { type = IntegerType; line = 1 }) (MkNames (at 9 1) (record
+    { comma = 1; name = (at 10 1) } ∷ []))) 1 (MoreDeclarations
+    (DeclareOwnArrays 1 (record { type = BooleanType; line = 1 }) 1
+    (MkFixed (MkNames (at 11 1) (record { comma = 1; name = (at 12 1) } ∷ [])) 1
+    (MkFixedPair (Unsigned 1 1) 1 (Unsigned 2 1))
+    (MoreFurther 1 (MkFixedPair (WithSign Subtract 1 3 1) 1 (WithSign Add 1 4 1)) NoFurther) 1) (record
+    { comma = 1; segment = (MkFixed (MkNames (at 13 1) ([])) 1 (MkFixedPair (Unsigned 0 1) 1 (Unsigned 1 1)) NoFurther 1) }
+    ∷ [])) 1 (MoreDeclarations (DeclareProcedure (MkHeading None 2 (at 14 2) NoFormals 2 NoValues ([])) (OneUnconditional
+    (MkUnconditional ([]) (OneGroup (MkBlock 2 (DeclareOwn 2 (record { type = BooleanType; line = 2 }) (MkNames (at 10 2)
+    ([]))) 2 NoDeclarations
+    (OneUnconditional (MkUnconditional ([]) (Assign (record { left = OneName (at 10 2); becomes = 2 }) ([]) (only
+    (OneElement (Subscripted (at 11 2) 2 (only (Numeral 1 2)) (MoreExprs 2 (only (Numeral 2 2)) NoExprs) 2))))))
+    NoStatements 2))))) 2 NoDeclarations))) (OneUnconditional (MkUnconditional (record { name = (at 15 3); colon = 3 } ∷ [])
+    (Assign (record { left = OneName (at 9 3); becomes = 3 }) ([]) (OneSimple (OneImplication (OneDisjunction (OneConjunction
+    (OneNegation (OneRelation (OneArithmetic (Summed (OneTerm (OneFactor (OnePrimary (OneCall (Alone (at 10 3)))))) Add 3
+    (OneFactor (OnePrimary (OneCall (Alone (at 8 3))))))))))))))))
+    (MoreStatements 3
+    (OneUnconditional (MkUnconditional ([]) (Assign
+    (record {
+      left = LeftElement
+          (Subscripted (at 11 3) 3 (only (Numeral 1 3)) (MoreExprs 3 (only (Numeral 2 3)) NoExprs) 3);
+      becomes = 3;
+    }) ([]) (only
+    (OneElement (Subscripted (at 13 3) 3 (only (Numeral 0 3)) NoExprs 3)))))) NoStatements) 3) 3
 
 abbrev pub text_own_3 : List Symbol
 text_own_3 = row 67 1 1 ∷ row 67 2 1 ∷ row 36 0 1 ∷ row 67 4 1 ∷ row 47 0 1 ∷ row 63 8 1 ∷ row 68 4 1 ∷ row 30 0 1 ∷ row 67 4 1

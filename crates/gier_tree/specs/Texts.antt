@@ -119,7 +119,7 @@ text_pairs t p (n ∷ ns) rest = word Comma n.comma ∷ text_pair t p n.pair (te
 abbrev pub text_segment : Text → Places → Segment → List Symbol → List Symbol
 text_segment t p (MkSegment ns l q qs m) rest = opens MSegment (first_name ns)
     ∷ names_as Declaring ns (word LeftBracket l ∷ text_pair t p q (text_pairs t p qs (word RightBracket m
-      ∷ shuts MSegment m ∷ rest)))
+    ∷ shuts MSegment m ∷ rest)))
 
 abbrev pub text_segments : Text → Places → List NextSegment → List Symbol → List Symbol
 text_segments t p [] rest = rest
@@ -144,7 +144,7 @@ text_further_pairs (suc n) more rest = text_further (text_further_pairs n) more 
 abbrev pub text_fixed : FixedSegment → (i : ℕ) → List Symbol → List Symbol
 text_fixed (MkFixed ns l q qs m) i rest = opens MSegment (first_name ns)
     ∷ owns_as ns i (word LeftBracket l ∷ text_fixed_pair q (text_further_pairs most_further qs (word RightBracket m
-      ∷ shuts MSegment m ∷ rest)))
+    ∷ shuts MSegment m ∷ rest)))
 
 abbrev pub fixed_count : FixedSegment → ℕ
 fixed_count (MkFixed ns l q qs m) = length (list_of ns)
@@ -188,7 +188,7 @@ text_specifications (s ∷ ss) rest =
 
 abbrev pub text_heading : Heading → List Symbol → List Symbol
 text_heading (MkHeading t l x fs m vs ss) rest = spell_option_type t (word Procedure l ∷ declares x
-      ∷ text_formals fs (word Semicolon m ∷ text_values vs (text_specifications ss rest)))
+    ∷ text_formals fs (word Semicolon m ∷ text_values vs (text_specifications ss rest)))
 
 -- labels, left parts, elements of for lists
 abbrev pub text_labels : List LabelPlace → List Symbol → List Symbol
@@ -260,7 +260,7 @@ abbrev mutual
       ∷ text_switch_element t p e (text_switch_elements t p es (shuts MSwitch (last_exprs (last_expr e) es) ∷ rest))
   text_declaration t p w next (DeclareProcedure h s) rest =
       opens MProcedure (first_heading h) ∷ entries t.stage (procedure_entries h s) (first_heading h)
-          (text_heading h (opens MBody (first_statement s next)
+      (text_heading h (opens MBody (first_statement s next)
       ∷ text_statement t (procedure_places (suc w.level) w.numbers h s p) (inner w (procedure_entries h s)) next s
       (shuts MBody (last_statement s next) ∷ shuts MProcedure (last_statement s (last_heading h)) ∷ rest)))
 
@@ -276,15 +276,15 @@ abbrev mutual
       let w2 = behind_declaration w1 d in
       let w3 = behind_declarations w2 ds in
       opens MBlock l
-          ∷ entries_of t.stage d w.owns l
-          (entries_of_all t.stage ds (w.owns + owns_in_declaration d) l
-            (entries t.stage (label_entries (labels_of_statement s (labels_of_statements ss []))) l
+      ∷ entries_of t.stage d w.owns l
+      (entries_of_all t.stage ds (w.owns + owns_in_declaration d) l
+      (entries t.stage (label_entries (labels_of_statement s (labels_of_statements ss []))) l
       (word Begin l ∷ text_declaration t q w1 m d (word Semicolon m ∷ text_declarations t q w2 ds
       (text_statement t q w3 (next_line ss n) s (text_statements t q (behind_statement w3 s) n ss (word End n
-            ∷ shuts MBlock n ∷ rest)))))))
+      ∷ shuts MBlock n ∷ rest)))))))
   text_group t p w (MkCompound l s ss n) rest = opens MCompound l ∷ word Begin l
       ∷ text_statement t p w (next_line ss n) s (text_statements t p (behind_statement w s) n ss (word End n
-        ∷ shuts MCompound n ∷ rest))
+      ∷ shuts MCompound n ∷ rest))
 
   -- what follows the last of the statements is an `_end` on this line
   pub text_statements : Text → Places → Where → (end : ℕ) → Statements → List Symbol → List Symbol
@@ -310,20 +310,20 @@ abbrev mutual
   pub text_conditional : Text → Places → Where → (next : ℕ) → Conditional → List Symbol → List Symbol
   text_conditional t p w next (IfThen ls l e m u) rest = opens MConditional (first_conditional (IfThen ls l e m u))
       ∷ text_labels ls (word If l ∷ text_expr t p e (word Then m
-        ∷ text_unconditional t p w next u (shuts MConditional (last_conditional (IfThen ls l e m u)) ∷ rest)))
+      ∷ text_unconditional t p w next u (shuts MConditional (last_conditional (IfThen ls l e m u)) ∷ rest)))
   text_conditional t p w next (IfElse ls l e m u n s) rest =
       opens MConditional (first_conditional (IfElse ls l e m u n s))
-          ∷ text_labels ls (word If l ∷ text_expr t p e (word Then m ∷ text_unconditional t p w n u (word Else n
+      ∷ text_labels ls (word If l ∷ text_expr t p e (word Then m ∷ text_unconditional t p w n u (word Else n
       ∷ text_statement t p (further w (numbers_unconditional u) (owns_in_unconditional u)) next s
-          (shuts MConditional (last_conditional (IfElse ls l e m u n s)) ∷ rest))))
+      (shuts MConditional (last_conditional (IfElse ls l e m u n s)) ∷ rest))))
   text_conditional t p w next (IfLoop ls l e m f) rest = opens MConditional (first_conditional (IfLoop ls l e m f))
       ∷ text_labels ls (word If l ∷ text_expr t p e (word Then m
-        ∷ text_loop t p w next f (shuts MConditional (last_conditional (IfLoop ls l e m f)) ∷ rest)))
+      ∷ text_loop t p w next f (shuts MConditional (last_conditional (IfLoop ls l e m f)) ∷ rest)))
 
   pub text_loop : Text → Places → Where → (next : ℕ) → Loop → List Symbol → List Symbol
   text_loop t p w next (MkLoop ls l x m u us n s) rest =
       opens MFor (first_loop (MkLoop ls l x m u us n s))
-          ∷ text_labels ls (word For l ∷ used_name t p x (word Becomes m ∷ text_turns t p u (text_next_turns t p us (word Do n
+      ∷ text_labels ls (word For l ∷ used_name t p x (word Becomes m ∷ text_turns t p u (text_next_turns t p us (word Do n
       ∷ opens MControlled (first_statement s next) ∷ entries t.stage (turn_entries s) (first_statement s next)
       (text_statement t (turn_places w.level w.numbers s p) (further w (entries_numbers (turn_entries s)) 0) next s
       (shuts MControlled (last_statement s next) ∷ shuts MFor (last_loop (MkLoop ls l x m u us n s)) ∷ rest))))))

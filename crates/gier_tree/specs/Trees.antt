@@ -108,7 +108,7 @@ mutual
 -- the expression that is one primary alone
 abbrev pub only : Primary → Expr
 only p = OneSimple (OneImplication (OneDisjunction (OneConjunction (OneNegation (OneRelation (OneArithmetic (OneTerm (OneFactor
-      (OnePrimary p)))))))))
+    (OnePrimary p)))))))))
 
 -- identifiers with commas between them
 pub record NextName : Type 0 where

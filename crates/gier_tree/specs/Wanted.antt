@@ -348,12 +348,20 @@ abbrev pub shut_implication : {R : Type 0} → MayBeNot
 shut_implication ts = let d = shut_disjunction ts in (with_impls (OneDisjunction d.0) d.1.0, d.1.1)
 
 abbrev pub shut_simple : {R : Type 0} → MayBeNot × (MayBeSign × (Primary × (Powers × (Products × (Sums × (MayBeRelation × (Ands
-      × (Ors × (Impls × (Equivs × R)))))))))) → Simple × R
+    × (Ors × (Impls × (Equivs × R)))))))))) → Simple × R
 shut_simple ts = let i = shut_implication ts in (with_equivs (OneImplication i.0) i.1.0, i.1.1)
 
 abbrev pub tails_of : Trees tail_items → Tails
-tails_of ts = record { powers = ts.0; products = ts.1.0; sums = ts.1.1.0; relation = ts.1.1.1.0; ands = ts.1.1.1.1.0;
-      ors = ts.1.1.1.1.1.0; impls = ts.1.1.1.1.1.1.0; equivs = ts.1.1.1.1.1.1.1.0 }
+tails_of ts = record {
+  powers = ts.0;
+  products = ts.1.0;
+  sums = ts.1.1.0;
+  relation = ts.1.1.1.0;
+  ands = ts.1.1.1.1.0;
+  ors = ts.1.1.1.1.1.0;
+  impls = ts.1.1.1.1.1.1.0;
+  equivs = ts.1.1.1.1.1.1.1.0;
+}
 
 -- a simple expression that begins with this operand
 abbrev pub simple_of : MayBeNot → MayBeSign → Primary → Trees tail_items → Simple

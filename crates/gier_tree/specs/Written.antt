@@ -176,7 +176,7 @@ is_called_as (Known (kind ∷ kinds)) d = wants_value kind && is_called_alone d.
 -- the identifier that an expression is, where it is one alone
 abbrev pub name_alone : Expr → Option Name
 name_alone (OneSimple (OneImplication (OneDisjunction (OneConjunction (OneNegation (OneRelation (OneArithmetic (OneTerm (OneFactor
-      (OnePrimary (OneCall (Alone x)))))))))))) = Some x
+    (OnePrimary (OneCall (Alone x)))))))))))) = Some x
 name_alone e = None
 
 abbrev pub called_alone : Stage → (called : Bool) → (line : ℕ) → List Symbol → List Symbol
@@ -196,7 +196,7 @@ abbrev mutual
   text_expr t p (OneSimple s) rest = text_simple t p s rest
   text_expr t p (IfExpr l c m s n e) rest = opens MConditional l ∷ word If l
       ∷ text_expr t p c (word Then m ∷ text_simple t p s (word Else n
-        ∷ text_expr t p e (shuts MConditional (last_expr e) ∷ rest)))
+      ∷ text_expr t p e (shuts MConditional (last_expr e) ∷ rest)))
 
   pub text_simple : Text → Places → Simple → List Symbol → List Symbol
   text_simple t p (OneImplication i) rest = text_implication t p i rest
@@ -227,7 +227,7 @@ abbrev mutual
   text_relation t p (OneArithmetic a) rest = text_arithmetic t p a rest
   text_relation t p (Compared a o l b) rest =
       text_arithmetic t p a (separator t.stage (word (comparing_tag o) l) (text_arithmetic t p b (behind t.stage
-          (operation (comparing_tag o) l) rest)))
+      (operation (comparing_tag o) l) rest)))
 
   pub text_arithmetic : Text → Places → Arithmetic → List Symbol → List Symbol
   text_arithmetic t p (OneTerm m) rest = text_term t p m rest
@@ -235,13 +235,13 @@ abbrev mutual
       separator t.stage (word (leading_tag o) l) (text_term t p m (behind t.stage (operation (leading_tag o) l) rest))
   text_arithmetic t p (Summed a o l m) rest =
       text_arithmetic t p a (separator t.stage (word (adding_tag o) l) (text_term t p m (behind t.stage
-          (operation (adding_tag o) l) rest)))
+      (operation (adding_tag o) l) rest)))
 
   pub text_term : Text → Places → Term → List Symbol → List Symbol
   text_term t p (OneFactor f) rest = text_factor t p f rest
   text_term t p (Multiplied m o l f) rest =
       text_term t p m (separator t.stage (word (multiplying_tag o) l) (text_factor t p f (behind t.stage
-          (operation (multiplying_tag o) l) rest)))
+      (operation (multiplying_tag o) l) rest)))
 
   pub text_factor : Text → Places → Factor → List Symbol → List Symbol
   text_factor t p (OnePrimary q) rest = text_primary t p q rest
@@ -265,8 +265,8 @@ abbrev mutual
   pub text_element : Text → Places → Element → List Symbol → List Symbol
   text_element t p (Subscripted x l e es m) rest =
       used_name t p x
-          (separator t.stage (word LeftBracket l) (opens MSubscript (first_expr e)
-              ∷ text_expr t p e (shuts MSubscript (last_expr e) ∷ text_subscripts t p es
+      (separator t.stage (word LeftBracket l) (opens MSubscript (first_expr e)
+      ∷ text_expr t p e (shuts MSubscript (last_expr e) ∷ text_subscripts t p es
       (closing_bracket t.stage (word RightBracket m) (sym SubscriptedTag (suc (count_exprs es)) l) rest))))
 
   pub text_actual : Text → Places → Expected → Actual → List Symbol → List Symbol
@@ -283,4 +283,4 @@ abbrev mutual
   pub text_subscripts : Text → Places → Exprs → List Symbol → List Symbol
   text_subscripts t p NoExprs rest = rest
   text_subscripts t p (MoreExprs l e es) rest = separator t.stage (word Comma l) (opens MSubscript (first_expr e)
-        ∷ text_expr t p e (shuts MSubscript (last_expr e) ∷ text_subscripts t p es rest))
+      ∷ text_expr t p e (shuts MSubscript (last_expr e) ∷ text_subscripts t p es rest))

@@ -87,7 +87,7 @@ relations = record {
       (IfExpr 1 (alone 9 1) 1
       (OneImplication
       (OneDisjunction (OneConjunction (OneNegation (OneRelation (OneArithmetic (OneTerm (OneFactor (OnePrimary
-            (Numeral 1 1))))))))))
+      (Numeral 1 1))))))))))
       1 (number 0 1))))) 1 NoDeclarations
       (plainly
       (CallStatement
@@ -182,7 +182,7 @@ logical = record {
       (IfExpr 1 (alone 9 1) 1
       (OneImplication
       (OneDisjunction (OneConjunction (OneNegation (OneRelation (OneArithmetic (OneTerm (OneFactor (OnePrimary
-            (Numeral 1 1))))))))))
+      (Numeral 1 1))))))))))
       1 (number 0 1))))) 1 NoDeclarations
       (plainly
       (CallStatement
@@ -248,7 +248,7 @@ logical = record {
       (Equivalent
       (OneImplication
       (OneDisjunction (OneConjunction (OneNegation (OneRelation (OneArithmetic (OneTerm (OneFactor (OnePrimary
-            (Logical true 3))))))))))
+      (Logical true 3))))))))))
       3
       (OneDisjunction
       (OneConjunction (OneNegation (OneRelation (OneArithmetic (OneTerm (OneFactor (OnePrimary (Logical false 3))))))))))))
@@ -293,7 +293,7 @@ standard = record {
       (OneExpr
       (only
       (OneCall (WithActuals (name 6 1) 1
-            (OneExpr (sum_expr (Signed Subtract 1 (OneFactor (OnePrimary (Numeral 5 1)))))) NoActuals 1))))
+      (OneExpr (sum_expr (Signed Subtract 1 (OneFactor (OnePrimary (Numeral 5 1)))))) NoActuals 1))))
       NoActuals 1)))
       (MoreStatements 1
       (plainly
@@ -302,15 +302,15 @@ standard = record {
       (OneExpr
       (only
       (OneCall (WithActuals (name 7 1) 1
-            (OneExpr (sum_expr (Signed Subtract 1 (OneFactor (OnePrimary (Numeral 5 1)))))) NoActuals 1))))
+      (OneExpr (sum_expr (Signed Subtract 1 (OneFactor (OnePrimary (Numeral 5 1)))))) NoActuals 1))))
       NoActuals 1)))
       (MoreStatements 1
       (plainly
       (CallStatement
       (WithActuals (name 0 1) 1
-            (OneExpr (only (OneCall (WithActuals (name 7 1) 1 (OneExpr (number 0 1)) NoActuals 1)))) NoActuals 1)))
+      (OneExpr (only (OneCall (WithActuals (name 7 1) 1 (OneExpr (number 0 1)) NoActuals 1)))) NoActuals 1)))
       (MoreStatements 1
-            (plainly (CallStatement (WithActuals (name 1 1) 1 (AString 1 (byte 111 1 ∷ byte 107 1 ∷ []) 1) NoActuals 1)))
+      (plainly (CallStatement (WithActuals (name 1 1) 1 (AString 1 (byte 111 1 ∷ byte 107 1 ∷ []) 1) NoActuals 1)))
       (MoreStatements 1 (plainly (CallStatement (WithActuals (name 3 1) 1 (OneExpr (number 33 1)) NoActuals 1))) NoStatements))))
       1) 1);
   unread = [];
@@ -394,7 +394,7 @@ spill_of_a_sign = record {
       (OneExpr
       (sum_expr
       (Summed (Signed Subtract 1 (OneFactor (OnePrimary (Numeral 549755813887 1)))) Subtract 1 (OneFactor
-            (OnePrimary (Numeral 1 1))))))
+      (OnePrimary (Numeral 1 1))))))
       NoActuals 1)))
       (MoreStatements 1
       (plainly
@@ -408,7 +408,7 @@ spill_of_a_sign = record {
       (Bracketed 3
       (sum_expr
       (Summed (Signed Subtract 3 (OneFactor (OnePrimary (Numeral 549755813887 3)))) Subtract 3 (OneFactor
-            (OnePrimary (Numeral 1 3)))))
+      (OnePrimary (Numeral 1 3)))))
       3)))))) NoActuals 3))) NoStatements) 3) 3);
   unread = [];
   permitted = 60;
@@ -432,7 +432,7 @@ spill_of_abs = record {
       (OneExpr
       (sum_expr
       (Summed (Signed Subtract 2 (OneFactor (OnePrimary (Numeral 549755813887 2)))) Subtract 2 (OneFactor
-            (OnePrimary (Numeral 1 2))))))
+      (OnePrimary (Numeral 1 2))))))
       NoActuals 2)))) NoActuals 2))) NoStatements 2) 2);
   unread = [];
   permitted = 60;

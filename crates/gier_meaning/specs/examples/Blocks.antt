@@ -49,7 +49,7 @@ hides = record {
       (MoreStatements 1
       (OneConditional
       (IfThen [] 1 (alone 8 1) 1 (MkUnconditional [] (CallStatement (WithActuals (name 3 1) 1
-            (OneExpr (number 116 1)) NoActuals 1)))))
+      (OneExpr (number 116 1)) NoActuals 1)))))
       NoStatements) 1)))
       (MoreStatements 1 (plainly (CallStatement (WithActuals (name 0 1) 1 (OneExpr (alone 8 1)) NoActuals 1))) NoStatements))
       1) 1);
@@ -79,7 +79,7 @@ dynamic_array = record {
             (MkPair (sum_expr (Signed Subtract 1 (OneFactor (OnePrimary (Numeral 1 1))))) 1
             (sum_expr
             (Summed (OneTerm (OneFactor (OnePrimary (OneCall (Alone (name 8 1)))))) Subtract 1 (OneFactor
-                  (OnePrimary (Numeral 2 1))))));
+            (OnePrimary (Numeral 2 1))))));
       } ∷ []) 1) []) 1
       (MoreDeclarations (DeclareType (integer_word 1) (MkNames (name 10 1) [])) 1 NoDeclarations)
       (OneLoop
@@ -93,7 +93,7 @@ dynamic_array = record {
             (MoreExprs 1
             (sum_expr
             (Summed (OneTerm (OneFactor (OnePrimary (OneCall (Alone (name 10 1)))))) Subtract 1 (OneFactor
-                  (OnePrimary (Numeral 2 1)))))
+            (OnePrimary (Numeral 2 1)))))
             NoExprs) 1));
         becomes = 1;
       }) []
@@ -171,7 +171,7 @@ abbrev pub boolean_array : Example
 boolean_array = record {
   program = (MkProgram []
       (MkBlock 1
-            (DeclareArrays (boolean_word 1) 1 (MkSegment (MkNames (name 8 1) []) 1 (MkPair (number 0 1) 1 (number 1 1)) [] 1) [])
+      (DeclareArrays (boolean_word 1) 1 (MkSegment (MkNames (name 8 1) []) 1 (MkPair (number 0 1) 1 (number 1 1)) [] 1) [])
       1 NoDeclarations
       (plainly
       (Assign (record { left = (LeftElement (Subscripted (name 8 1) 1 (number 1 1) NoExprs 1)); becomes = 1 }) []
@@ -183,10 +183,10 @@ boolean_array = record {
       (Both
       (OneNegation
       (OneRelation (OneArithmetic (OneTerm (OneFactor (OnePrimary (OneElement (Subscripted (name 8 1) 1
-            (number 1 1) NoExprs 1))))))))
+      (number 1 1) NoExprs 1))))))))
       1
       (Negated 1 (OneArithmetic (OneTerm (OneFactor (OnePrimary (OneElement (Subscripted (name 8 1) 1
-            (number 0 1) NoExprs 1)))))))))
+      (number 0 1) NoExprs 1)))))))))
       1 (MkUnconditional [] (CallStatement (WithActuals (name 3 1) 1 (OneExpr (number 98 1)) NoActuals 1)))))
       NoStatements) 1) 1);
   unread = [];
@@ -202,7 +202,7 @@ abbrev pub subscript_below : Example
 subscript_below = record {
   program = (MkProgram []
       (MkBlock 1
-            (DeclareArrays (integer_word 1) 1 (MkSegment (MkNames (name 8 1) []) 1 (MkPair (number 1 1) 1 (number 2 1)) [] 1) [])
+      (DeclareArrays (integer_word 1) 1 (MkSegment (MkNames (name 8 1) []) 1 (MkPair (number 1 1) 1 (number 2 1)) [] 1) [])
       1 NoDeclarations
       (plainly
       (Assign (record { left = (LeftElement (Subscripted (name 8 1) 1 (number 1 1) NoExprs 1)); becomes = 1 }) [] (number 5 1)))
@@ -252,7 +252,7 @@ abbrev pub subscripts_of_another_number : Example
 subscripts_of_another_number = record {
   program = (MkProgram []
       (MkBlock 1
-            (DeclareArrays (integer_word 1) 1 (MkSegment (MkNames (name 8 1) []) 1 (MkPair (number 1 1) 1 (number 2 1)) [] 1) [])
+      (DeclareArrays (integer_word 1) 1 (MkSegment (MkNames (name 8 1) []) 1 (MkPair (number 1 1) 1 (number 2 1)) [] 1) [])
       1
       (MoreDeclarations
       (DeclareProcedure
@@ -323,9 +323,9 @@ own_counter = record {
       (Assign (record { left = (OneName (name 4294967296 1)); becomes = 1 }) []
       (sum_expr
       (Summed (OneTerm (OneFactor (OnePrimary (OneCall (Alone (name 4294967296 1)))))) Add 1 (OneFactor
-            (OnePrimary (Numeral 1 1)))))))
+      (OnePrimary (Numeral 1 1)))))))
       (MoreStatements 1
-            (plainly (CallStatement (WithActuals (name 0 1) 1 (OneExpr (alone 4294967296 1)) NoActuals 1))) NoStatements)
+      (plainly (CallStatement (WithActuals (name 0 1) 1 (OneExpr (alone 4294967296 1)) NoActuals 1))) NoStatements)
       1)))) 1 NoDeclarations (plainly (CallStatement (Alone (name 8 1))))
       (MoreStatements 1 (plainly (CallStatement (Alone (name 8 1))))
       (MoreStatements 1 (plainly (CallStatement (Alone (name 8 1)))) NoStatements)) 1))) NoStatements 1) 1);
@@ -365,7 +365,7 @@ own_array = record {
       (plainly
       (CallStatement
       (WithActuals (name 0 1) 1
-            (OneExpr (only (OneElement (Subscripted (name 4294967296 1) 1 (number 1 1) NoExprs 1)))) NoActuals 1)))
+      (OneExpr (only (OneElement (Subscripted (name 4294967296 1) 1 (number 1 1) NoExprs 1)))) NoActuals 1)))
       NoStatements)) 1)))) 1 NoDeclarations (plainly (CallStatement (Alone (name 8 1))))
       (MoreStatements 1 (plainly (CallStatement (Alone (name 8 1)))) NoStatements) 1))) NoStatements 1) 1);
   unread = [];

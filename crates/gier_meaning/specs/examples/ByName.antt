@@ -133,7 +133,7 @@ each_use_evaluates = record {
       (plainly
       (Assign (record { left = (OneName (name 8 1)); becomes = 1 }) []
       (sum_expr (Summed (OneTerm (OneFactor (OnePrimary (OneCall (Alone (name 8 1)))))) Add 1 (OneFactor
-            (OnePrimary (Numeral 1 1)))))))
+      (OnePrimary (Numeral 1 1)))))))
       (MoreStatements 1 (plainly (Assign (record { left = (OneName (name 9 1)); becomes = 1 }) [] (alone 8 1))) NoStatements)
       1)))) 1
       (MoreDeclarations
@@ -219,7 +219,7 @@ name_of_a_name = record {
       (plainly
       (Assign (record { left = (OneName (name 10 1)); becomes = 1 }) []
       (sum_expr (Summed (OneTerm (OneFactor (OnePrimary (OneCall (Alone (name 10 1)))))) Add 1 (OneFactor (OnePrimary
-            (Numeral 1 1))))))))
+      (Numeral 1 1))))))))
       1
       (MoreDeclarations
       (DeclareProcedure
@@ -258,7 +258,7 @@ changes_its_formal = record {
       (plainly
       (CallStatement
       (WithActuals (name 0 1) 1
-            (OneExpr (only (OneCall (WithActuals (name 8 1) 1 (OneExpr (alone 10 1)) NoActuals 1)))) NoActuals 1)))
+      (OneExpr (only (OneCall (WithActuals (name 8 1) 1 (OneExpr (alone 10 1)) NoActuals 1)))) NoActuals 1)))
       (MoreStatements 1 (plainly (CallStatement (WithActuals (name 0 1) 1 (OneExpr (alone 10 1)) NoActuals 1)))
       (MoreStatements 1
       (plainly
@@ -290,7 +290,7 @@ boolean_by_name = record {
       (MkUnconditional (label_place 11 1 1 ∷ [])
       (Assign (record { left = (OneName (name 8 1)); becomes = 1 }) []
       (sum_expr (Summed (OneTerm (OneFactor (OnePrimary (OneCall (Alone (name 8 1)))))) Add 1 (OneFactor (OnePrimary
-            (Numeral 1 1))))))))
+      (Numeral 1 1))))))))
       (MoreStatements 1
       (OneConditional
       (IfThen [] 1 (negation_expr (Negated 1 (OneArithmetic (OneTerm (OneFactor (OnePrimary (OneCall (Alone (name 10 1))))))))) 1
@@ -367,7 +367,7 @@ no_variable_behind_a_name = record {
   limit = 400;
   told = told_as ([]) (Stopped (Alarmed Assignment)) 5 36 ([])
       (stop_at (live (InEvaluation 6) 6 ∷ live (InEvaluation 3) 5 ∷ live (InProcedure 5) 8 ∷ live (InProcedure 7) 9
-          ∷ live InBlock 5 ∷ live InProgram 3 ∷ []) 6);
+      ∷ live InBlock 5 ∷ live InProgram 3 ∷ []) 6);
 }
 
 --     _begin _integer _array a[1:3]; _integer k; _procedure p(x); _integer x; _begin k := 2; x := 4; k := 3; x := 6 _end;
@@ -376,7 +376,7 @@ abbrev pub name_in_a_subscript : Example
 name_in_a_subscript = record {
   program = (MkProgram []
       (MkBlock 1
-            (DeclareArrays (integer_word 1) 1 (MkSegment (MkNames (name 8 1) []) 1 (MkPair (number 1 1) 1 (number 3 1)) [] 1) [])
+      (DeclareArrays (integer_word 1) 1 (MkSegment (MkNames (name 8 1) []) 1 (MkPair (number 1 1) 1 (number 3 1)) [] 1) [])
       1
       (MoreDeclarations (DeclareType (integer_word 1) (MkNames (name 9 1) [])) 1
       (MoreDeclarations
@@ -434,7 +434,7 @@ out_of_an_evaluation = record {
       (WithActuals (name 10 1) 1
       (OneExpr
       (sum_expr (Summed (OneTerm (OneFactor (OnePrimary (Numeral 1 1)))) Add 1 (OneFactor (OnePrimary (OneCall
-            (Alone (name 8 1))))))))
+      (Alone (name 8 1))))))))
       NoActuals 1)))
       (MoreStatements 1 (plainly (CallStatement (WithActuals (name 3 1) 1 (OneExpr (number 99 1)) NoActuals 1)))
       (MoreStatements 1
@@ -466,7 +466,7 @@ man_or_boy = record {
         specifier = (ValueSpec (integer_word 2));
         names =
             (MkNames (name 9 2) (comma_name 2 10 2 ∷ comma_name 2 11 2 ∷ comma_name 2 12 2 ∷ comma_name 2 13 2
-                  ∷ comma_name 2 14 2 ∷ []));
+            ∷ comma_name 2 14 2 ∷ []));
         semicolon = 2;
       } ∷ []))
       (plainly
@@ -489,7 +489,7 @@ man_or_boy = record {
       (MoreActuals 4 (OneExpr (alone 15 4))
       (MoreActuals 4 (OneExpr (alone 10 4))
       (MoreActuals 4 (OneExpr (alone 11 4)) (MoreActuals 4 (OneExpr (alone 12 4)) (MoreActuals 4
-            (OneExpr (alone 13 4)) NoActuals)))))
+      (OneExpr (alone 13 4)) NoActuals)))))
       4))))) NoStatements) 4)))) 4 NoDeclarations
       (OneConditional
       (IfElse [] 5

@@ -23,7 +23,7 @@ abbrev pub array_formal : Example
 array_formal = record {
   program = (MkProgram []
       (MkBlock 1
-            (DeclareArrays (integer_word 1) 1 (MkSegment (MkNames (name 8 1) []) 1 (MkPair (number 1 1) 1 (number 2 1)) [] 1) [])
+      (DeclareArrays (integer_word 1) 1 (MkSegment (MkNames (name 8 1) []) 1 (MkPair (number 1 1) 1 (number 2 1)) [] 1) [])
       1
       (MoreDeclarations
       (DeclareProcedure
@@ -59,7 +59,7 @@ abbrev pub boolean_array_formal : Example
 boolean_array_formal = record {
   program = (MkProgram []
       (MkBlock 1
-            (DeclareArrays (boolean_word 1) 1 (MkSegment (MkNames (name 8 1) []) 1 (MkPair (number 1 1) 1 (number 2 1)) [] 1) [])
+      (DeclareArrays (boolean_word 1) 1 (MkSegment (MkNames (name 8 1) []) 1 (MkPair (number 1 1) 1 (number 2 1)) [] 1) [])
       1
       (MoreDeclarations
       (DeclareProcedure
@@ -69,7 +69,7 @@ boolean_array_formal = record {
       (Assign (record { left = (LeftElement (Subscripted (name 10 1) 1 (number 2 1) NoExprs 1)); becomes = 1 }) []
       (negation_expr
       (Negated 1 (OneArithmetic (OneTerm (OneFactor (OnePrimary (OneElement (Subscripted (name 10 1) 1
-            (number 1 1) NoExprs 1)))))))))))
+      (number 1 1) NoExprs 1)))))))))))
       1 NoDeclarations) (plainly (CallStatement (WithActuals (name 9 1) 1 (OneExpr (alone 8 1)) NoActuals 1)))
       (MoreStatements 1
       (OneConditional
@@ -157,7 +157,7 @@ agrees = record {
       (MoreActuals 1
       (OneExpr
       (sum_expr (Summed (OneTerm (OneFactor (OnePrimary (OneCall (Alone (name 10 1)))))) Add 1 (OneFactor
-            (OnePrimary (Numeral 1 1))))))
+      (OnePrimary (Numeral 1 1))))))
       NoActuals) 1)))) 1
       (MoreDeclarations
       (DeclareProcedure
@@ -249,7 +249,7 @@ another_kind = record {
       (record { specifier = (ProcedureSpec 1); names = (MkNames (name 9 1) []); semicolon = 1 } ∷ []))
       (plainly
       (CallStatement (WithActuals (name 9 1) 1 (OneExpr (number 1 1))
-            (MoreActuals 1 (OneExpr (only (Logical true 1))) NoActuals) 1))))
+      (MoreActuals 1 (OneExpr (only (Logical true 1))) NoActuals) 1))))
       1
       (MoreDeclarations
       (DeclareProcedure
@@ -309,7 +309,7 @@ abbrev pub all_kinds : Example
 all_kinds = record {
   program = (MkProgram []
       (MkBlock 1
-            (DeclareArrays (integer_word 1) 1 (MkSegment (MkNames (name 8 1) []) 1 (MkPair (number 1 1) 1 (number 1 1)) [] 1) [])
+      (DeclareArrays (integer_word 1) 1 (MkSegment (MkNames (name 8 1) []) 1 (MkPair (number 1 1) 1 (number 1 1)) [] 1) [])
       1
       (MoreDeclarations
       (DeclareArrays (boolean_word 1) 1 (MkSegment (MkNames (name 9 1) []) 1 (MkPair (number 1 1) 1 (number 1 1)) [] 1) [])
@@ -392,7 +392,7 @@ all_kinds = record {
       (MoreStatements 3
       (OneConditional
       (IfThen [] 3 (alone 27 3) 3 (MkUnconditional [] (Jump 3 (only (OneElement (Subscripted (name 23 3) 3
-            (number 1 3) NoExprs 3)))))))
+      (number 1 3) NoExprs 3)))))))
       (MoreStatements 3 (plainly (Jump 3 (alone 20 3))) NoStatements)))))))) 3)))) 3
       (MoreDeclarations
       (DeclareProcedure
@@ -410,7 +410,7 @@ all_kinds = record {
       (MoreActuals 4 (OneExpr (alone 10 4))
       (MoreActuals 4 (AString 4 (byte 115 4 ∷ byte 116 4 ∷ []) 4)
       (MoreActuals 4 (OneExpr (alone 14 4)) (MoreActuals 4 (OneExpr (alone 12 4)) (MoreActuals 4
-            (OneExpr (alone 13 4)) NoActuals)))))))))))
+      (OneExpr (alone 13 4)) NoActuals)))))))))))
       4)))) 4 NoDeclarations)))))))
       (plainly (CallStatement (WithActuals (name 28 5) 5 (OneExpr (alone 15 5)) NoActuals 5)))
       (MoreStatements 5
@@ -452,7 +452,7 @@ formal_function = record {
       (only
       (OneCall
       (WithActuals (name 9 1) 1
-            (OneExpr (only (OneCall (WithActuals (name 9 1) 1 (OneExpr (alone 10 1)) NoActuals 1)))) NoActuals 1))))))
+      (OneExpr (only (OneCall (WithActuals (name 9 1) 1 (OneExpr (alone 10 1)) NoActuals 1)))) NoActuals 1))))))
       1
       (MoreDeclarations
       (DeclareProcedure
@@ -462,13 +462,13 @@ formal_function = record {
       (plainly
       (Assign (record { left = (OneName (name 11 1)); becomes = 1 }) []
       (sum_expr (Summed (OneTerm (OneFactor (OnePrimary (OneCall (Alone (name 10 1)))))) Add 1 (OneFactor (OnePrimary
-            (Numeral 1 1))))))))
+      (Numeral 1 1))))))))
       1 NoDeclarations)
       (plainly
       (CallStatement
       (WithActuals (name 0 1) 1
       (OneExpr (only (OneCall (WithActuals (name 8 1) 1 (OneExpr (alone 11 1))
-            (MoreActuals 1 (OneExpr (number 3 1)) NoActuals) 1))))
+      (MoreActuals 1 (OneExpr (number 3 1)) NoActuals) 1))))
       NoActuals 1))) NoStatements 1) 1);
   unread = [];
   permitted = 60;
@@ -514,7 +514,7 @@ formal_passed_on = record {
       (WithActuals (name 0 1) 1
       (OneExpr
       (sum_expr (Summed (OneTerm (OneFactor (OnePrimary (OneCall (Alone (name 12 1)))))) Add 1 (OneFactor
-            (OnePrimary (Numeral 7 1))))))
+      (OnePrimary (Numeral 7 1))))))
       NoActuals 1)))) 1 NoDeclarations)
       (plainly (CallStatement (WithActuals (name 8 1) 1 (OneExpr (alone 11 1)) (MoreActuals 1 (OneExpr (number 1 1)) NoActuals) 1)))
       NoStatements 1) 1);
@@ -544,12 +544,12 @@ remembers_its_activation = record {
       (plainly
       (Assign (record { left = (OneName (name 11 1)); becomes = 1 }) []
       (sum_expr (Summed (OneTerm (OneFactor (OnePrimary (Numeral 9 1)))) Add 1 (OneFactor (OnePrimary (OneCall
-            (Alone (name 8 1)))))))))
+      (Alone (name 8 1)))))))))
       (MoreStatements 1
       (plainly
       (Assign (record { left = (OneName (name 8 1)); becomes = 1 }) []
       (sum_expr (Summed (OneTerm (OneFactor (OnePrimary (OneCall (Alone (name 8 1)))))) Add 1 (OneFactor
-            (OnePrimary (Numeral 1 1)))))))
+      (OnePrimary (Numeral 1 1)))))))
       (MoreStatements 1
       (OneConditional
       (IfElse [] 1
@@ -583,7 +583,7 @@ value_through_a_formal = record {
       (plainly
       (Assign (record { left = (OneName (name 8 1)); becomes = 1 }) []
       (sum_expr (Summed (OneTerm (OneFactor (OnePrimary (OneCall (Alone (name 8 1)))))) Add 1 (OneFactor
-            (OnePrimary (Numeral 1 1)))))))
+      (OnePrimary (Numeral 1 1)))))))
       (MoreStatements 1 (plainly (Assign (record { left = (OneName (name 9 1)); becomes = 1 }) [] (alone 8 1))) NoStatements)
       1)))) 1
       (MoreDeclarations
@@ -610,15 +610,15 @@ value_through_a_formal = record {
       (WithActuals (name 15 1) 1
       (OneExpr
       (sum_expr (Summed (OneTerm (OneFactor (OnePrimary (OneCall (Alone (name 9 1)))))) Add 1 (OneFactor
-            (OnePrimary (Numeral 0 1))))))
+      (OnePrimary (Numeral 0 1))))))
       (MoreActuals 1
       (OneExpr
       (sum_expr (Summed (OneTerm (OneFactor (OnePrimary (OneCall (Alone (name 9 1)))))) Add 1 (OneFactor
-            (OnePrimary (Numeral 0 1))))))
+      (OnePrimary (Numeral 0 1))))))
       (MoreActuals 1
       (OneExpr
       (sum_expr (Summed (OneTerm (OneFactor (OnePrimary (OneCall (Alone (name 9 1)))))) Add 1 (OneFactor
-            (OnePrimary (Numeral 0 1))))))
+      (OnePrimary (Numeral 0 1))))))
       NoActuals)) 1)))) 1 NoDeclarations)))
       (plainly (CallStatement (WithActuals (name 14 1) 1 (OneExpr (alone 10 1)) NoActuals 1))) NoStatements 1) 1);
   unread = [];
@@ -643,7 +643,7 @@ standard_as_expression = record {
       (OneExpr
       (only
       (OneCall (WithActuals (name 6 1) 1
-            (OneExpr (sum_expr (Signed Subtract 1 (OneFactor (OnePrimary (Numeral 2 1)))))) NoActuals 1))))
+      (OneExpr (sum_expr (Signed Subtract 1 (OneFactor (OnePrimary (Numeral 2 1)))))) NoActuals 1))))
       NoActuals) 1)))) 1
       (MoreDeclarations
       (DeclareProcedure

@@ -98,7 +98,7 @@ undefined_in_a_branch = record {
       (OneConjunction
       (OneNegation
       (OneRelation (OneArithmetic (OneTerm (OneFactor (OnePrimary (OneElement (Subscripted (name 8 1) 1
-            (number 5 1) NoExprs 1)))))))))))
+      (number 5 1) NoExprs 1)))))))))))
       1 (alone 9 1)) 1)) NoExprs)) 1 NoDeclarations
       (plainly
       (Jump 1
@@ -135,7 +135,7 @@ elements_evaluated_at_use = record {
       (OneImplication
       (OneDisjunction
       (OneConjunction (OneNegation (OneRelation (OneArithmetic (OneTerm (OneFactor (OnePrimary (OneCall (Alone
-            (name 10 1))))))))))))
+      (name 10 1))))))))))))
       1 (alone 11 1)) (MoreExprs 1 (only (OneElement (Subscripted (name 9 1) 1 (number 1 1) NoExprs 1))) NoExprs)) 1
       NoDeclarations) (plainly (Assign (record { left = (OneName (name 8 1)); becomes = 1 }) [] (number 1 1)))
       (MoreStatements 1 (plainly (Jump 1 (only (OneElement (Subscripted (name 9 1) 1 (number 2 1) NoExprs 1)))))
@@ -251,7 +251,7 @@ label_of_its_activation = record {
       (OneImplication
       (OneDisjunction
       (OneConjunction (OneNegation (OneRelation (OneArithmetic (OneTerm (OneFactor (OnePrimary (OneCall (Alone
-            (name 11 1))))))))))))
+      (name 11 1))))))))))))
       1 (alone 10 1))) NoActuals) 1)))
       (MoreStatements 1 (plainly (CallStatement (WithActuals (name 3 1) 1 (OneExpr (number 97 1)) NoActuals 1)))
       (MoreStatements 1
@@ -284,7 +284,7 @@ subscript_with_side_effects = record {
       (plainly
       (Assign (record { left = (OneName (name 8 1)); becomes = 1 }) []
       (sum_expr (Summed (OneTerm (OneFactor (OnePrimary (OneCall (Alone (name 8 1)))))) Add 1 (OneFactor
-            (OnePrimary (Numeral 1 1)))))))
+      (OnePrimary (Numeral 1 1)))))))
       (MoreStatements 1 (plainly (Assign (record { left = (OneName (name 9 1)); becomes = 1 }) [] (alone 8 1))) NoStatements)
       1)))) 1
       (MoreDeclarations (DeclareSwitch 1 (name 10 1) 1 (alone 11 1) (MoreExprs 1 (alone 12 1) NoExprs)) 1 NoDeclarations))
@@ -330,7 +330,7 @@ leaves_a_switch_element = record {
       (OneImplication
       (OneDisjunction
       (OneConjunction (OneNegation (OneRelation (OneArithmetic (OneTerm (OneFactor (OnePrimary (OneCall (Alone
-            (name 11 1))))))))))))
+      (name 11 1))))))))))))
       1 (alone 9 1)) NoExprs)) 1 NoDeclarations)
       (plainly (Jump 1 (only (OneElement (Subscripted (name 10 1) 1 (number 2 1) NoExprs 1)))))
       (MoreStatements 1

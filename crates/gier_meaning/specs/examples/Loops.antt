@@ -26,7 +26,7 @@ three_elements = record {
         turns =
             (WhileTrue
             (sum_expr (Summed (OneTerm (OneFactor (OnePrimary (OneCall (Alone (name 8 1)))))) Add 1 (OneFactor
-                  (OnePrimary (Numeral 1 1)))))
+            (OnePrimary (Numeral 1 1)))))
             1
             (relation_expr
             (Compared (OneTerm (OneFactor (OnePrimary (OneCall (Alone (name 8 1)))))) LessThan 1
@@ -156,7 +156,7 @@ label_in_a_turn = record {
       (MkUnconditional (label_place 10 1 1 ∷ [])
       (Assign (record { left = (OneName (name 9 1)); becomes = 1 }) []
       (sum_expr (Summed (OneTerm (OneFactor (OnePrimary (OneCall (Alone (name 9 1)))))) Add 1 (OneFactor (OnePrimary
-            (Numeral 1 1))))))))
+      (Numeral 1 1))))))))
       (MoreStatements 1 (plainly (CallStatement (WithActuals (name 0 1) 1 (OneExpr (alone 9 1)) NoActuals 1)))
       (MoreStatements 1
       (OneConditional
@@ -259,7 +259,7 @@ labels_of_two_turns = record {
       (OneExpr
       (sum_expr
       (Summed (OneTerm (Multiplied (OneFactor (OnePrimary (Numeral 10 2))) Multiply 2 (OnePrimary (OneCall
-              (Alone (name 8 2)))))) Add
+      (Alone (name 8 2)))))) Add
       2 (OneFactor (OnePrimary (OneCall (Alone (name 9 2)))))))) NoActuals 2))))
       NoStatements)) 2))))))) NoStatements 2) 2);
   unread = [];
@@ -307,7 +307,7 @@ abbrev pub variable_by_name : Example
 variable_by_name = record {
   program = (MkProgram []
       (MkBlock 1
-            (DeclareArrays (integer_word 1) 1 (MkSegment (MkNames (name 8 1) []) 1 (MkPair (number 1 1) 1 (number 2 1)) [] 1) [])
+      (DeclareArrays (integer_word 1) 1 (MkSegment (MkNames (name 8 1) []) 1 (MkPair (number 1 1) 1 (number 2 1)) [] 1) [])
       1
       (MoreDeclarations (DeclareType (integer_word 1) (MkNames (name 9 1) [])) 1
       (MoreDeclarations

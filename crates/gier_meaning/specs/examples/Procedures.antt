@@ -28,7 +28,7 @@ value_is_a_copy = record {
       (plainly
       (Assign (record { left = (OneName (name 10 1)); becomes = 1 }) []
       (sum_expr (Summed (OneTerm (OneFactor (OnePrimary (OneCall (Alone (name 10 1)))))) Add 1 (OneFactor
-            (OnePrimary (Numeral 1 1)))))))
+      (OnePrimary (Numeral 1 1)))))))
       (MoreStatements 1 (plainly (CallStatement (WithActuals (name 0 1) 1 (OneExpr (alone 10 1)) NoActuals 1))) NoStatements)
       1)))) 1 NoDeclarations)
       (plainly (Assign (record { left = (OneName (name 8 1)); becomes = 1 }) [] (number 4 1)))
@@ -89,7 +89,7 @@ recursion = record {
       (OneTerm (OneFactor (OnePrimary (Numeral 0 1)))))) 1
       (OneImplication
       (OneDisjunction (OneConjunction (OneNegation (OneRelation (OneArithmetic (OneTerm (OneFactor (OnePrimary
-            (Numeral 0 1))))))))))
+      (Numeral 0 1))))))))))
       1
       (sum_expr
       (Summed
@@ -105,7 +105,7 @@ recursion = record {
       (plainly
       (CallStatement
       (WithActuals (name 0 1) 1
-            (OneExpr (only (OneCall (WithActuals (name 8 1) 1 (OneExpr (number 3 1)) NoActuals 1)))) NoActuals 1)))
+      (OneExpr (only (OneCall (WithActuals (name 8 1) 1 (OneExpr (number 3 1)) NoActuals 1)))) NoActuals 1)))
       NoStatements 1) 1);
   unread = [];
   permitted = 60;
@@ -132,7 +132,7 @@ both_recur = record {
       (OneTerm (OneFactor (OnePrimary (Numeral 0 1)))))) 1
       (OneImplication
       (OneDisjunction (OneConjunction (OneNegation (OneRelation (OneArithmetic (OneTerm (OneFactor (OnePrimary
-            (Logical true 1))))))))))
+      (Logical true 1))))))))))
       1
       (only
       (OneCall
@@ -192,12 +192,12 @@ starts_at_zero = record {
       (plainly
       (CallStatement
       (WithActuals (name 0 1) 1
-            (OneExpr (only (OneCall (WithActuals (name 8 1) 1 (OneExpr (number 3 1)) NoActuals 1)))) NoActuals 1)))
+      (OneExpr (only (OneCall (WithActuals (name 8 1) 1 (OneExpr (number 3 1)) NoActuals 1)))) NoActuals 1)))
       (MoreStatements 1
       (plainly
       (CallStatement
       (WithActuals (name 0 1) 1
-            (OneExpr (only (OneCall (WithActuals (name 8 1) 1 (OneExpr (number 0 1)) NoActuals 1)))) NoActuals 1)))
+      (OneExpr (only (OneCall (WithActuals (name 8 1) 1 (OneExpr (number 0 1)) NoActuals 1)))) NoActuals 1)))
       NoStatements) 1) 1);
   unread = [];
   permitted = 60;
@@ -278,7 +278,7 @@ actuals_in_order = record {
       (plainly
       (Assign (record { left = (OneName (name 8 1)); becomes = 1 }) []
       (sum_expr (Summed (OneTerm (OneFactor (OnePrimary (OneCall (Alone (name 8 1)))))) Add 1 (OneFactor
-            (OnePrimary (Numeral 1 1)))))))
+      (OnePrimary (Numeral 1 1)))))))
       (MoreStatements 1 (plainly (Assign (record { left = (OneName (name 9 1)); becomes = 1 }) [] (alone 8 1))) NoStatements)
       1)))) 1
       (MoreDeclarations
@@ -413,7 +413,7 @@ array_in_recursion = record {
       (MkSegment (MkNames (name 10 1) []) 1
       (MkPair (alone 9 1) 1
       (sum_expr (Summed (OneTerm (OneFactor (OnePrimary (OneCall (Alone (name 9 1)))))) Add 1 (OneFactor
-            (OnePrimary (Numeral 1 1))))))
+      (OnePrimary (Numeral 1 1))))))
       [] 1) []) 1 NoDeclarations
       (plainly
       (Assign (record { left = (LeftElement (Subscripted (name 10 1) 1 (alone 9 1) NoExprs 1)); becomes = 1 }) [] (alone 9 1)))

@@ -27,7 +27,7 @@ left_parts_first = record {
       (plainly
       (Assign (record { left = (OneName (name 8 1)); becomes = 1 }) []
       (sum_expr (Summed (OneTerm (OneFactor (OnePrimary (OneCall (Alone (name 8 1)))))) Add 1 (OneFactor
-            (OnePrimary (Numeral 1 1)))))))
+      (OnePrimary (Numeral 1 1)))))))
       (MoreStatements 1 (plainly (Assign (record { left = (OneName (name 11 1)); becomes = 1 }) [] (alone 8 1))) NoStatements)
       1)))) 1 NoDeclarations))
       (plainly
@@ -99,7 +99,7 @@ skips_behind_end = record {
       (IfElse [] 1 (only (Logical false 1)) 1
       (MkUnconditional []
       (OneGroup (MkCompound 1
-            (plainly (CallStatement (WithActuals (name 3 1) 1 (OneExpr (number 65 1)) NoActuals 1))) NoStatements 1)))
+      (plainly (CallStatement (WithActuals (name 3 1) 1 (OneExpr (number 65 1)) NoActuals 1))) NoStatements 1)))
       1 (plainly (CallStatement (WithActuals (name 3 1) 1 (OneExpr (number 66 1)) NoActuals 1))))) NoStatements 1) 1);
   unread = [];
   permitted = 60;
@@ -116,7 +116,7 @@ loop_by_go_to = record {
       (MkUnconditional (label_place 9 1 1 ∷ [])
       (Assign (record { left = (OneName (name 8 1)); becomes = 1 }) []
       (sum_expr (Summed (OneTerm (OneFactor (OnePrimary (OneCall (Alone (name 8 1)))))) Add 1 (OneFactor (OnePrimary
-            (Numeral 1 1))))))))
+      (Numeral 1 1))))))))
       (MoreStatements 1
       (OneConditional
       (IfElse [] 1
@@ -157,7 +157,7 @@ into_a_branch = record {
       (plainly
       (Assign (record { left = (OneName (name 8 1)); becomes = 1 }) []
       (sum_expr (Summed (OneTerm (OneFactor (OnePrimary (OneCall (Alone (name 8 1)))))) Add 1 (OneFactor
-            (OnePrimary (Numeral 1 1)))))))
+      (OnePrimary (Numeral 1 1)))))))
       (MoreStatements 1
       (OneUnconditional
       (MkUnconditional (label_place 10 1 1 ∷ []) (CallStatement (WithActuals (name 3 1) 1 (OneExpr (number 99 1)) NoActuals 1))))

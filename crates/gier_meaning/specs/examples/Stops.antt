@@ -49,7 +49,7 @@ enough_steps = record {
       (WithActuals (name 10 7) 7
       (OneExpr
       (sum_expr (Summed (OneTerm (OneFactor (OnePrimary (OneCall (Alone (name 9 7)))))) Add 7 (OneFactor
-            (OnePrimary (Numeral 1 7))))))
+      (OnePrimary (Numeral 1 7))))))
       NoActuals 7)))
       (MoreStatements 7
       (OneLoop
@@ -57,7 +57,7 @@ enough_steps = record {
       (plainly
       (Assign (record { left = (OneName (name 8 9)); becomes = 9 }) []
       (sum_expr (Summed (OneTerm (OneFactor (OnePrimary (OneCall (Alone (name 8 9)))))) Add 9 (OneFactor (OnePrimary
-            (Numeral 1 9)))))))))
+      (Numeral 1 9)))))))))
       (MoreStatements 9
       (plainly
       (OneGroup
@@ -70,7 +70,7 @@ enough_steps = record {
       (MoreStatements 12
       (OneUnconditional
       (MkUnconditional (label_place 13 13 13 ∷ []) (CallStatement (WithActuals (name 3 13) 13
-            (OneExpr (number 98 13)) NoActuals 13))))
+      (OneExpr (number 98 13)) NoActuals 13))))
       NoStatements)))))) 13) 13);
   unread = [];
   permitted = 8;
@@ -204,7 +204,7 @@ abbrev pub forever : Example
 forever = record {
   program =
       (MkProgram []
-          (MkCompound 1 (OneUnconditional (MkUnconditional (label_place 8 1 1 ∷ []) (Jump 1 (alone 8 1)))) NoStatements 1) 1);
+      (MkCompound 1 (OneUnconditional (MkUnconditional (label_place 8 1 1 ∷ []) (Jump 1 (alone 8 1)))) NoStatements 1) 1);
   unread = [];
   permitted = 5;
   limit = 400;
@@ -229,7 +229,7 @@ deep_enough = record {
       (OneTerm (OneFactor (OnePrimary (Numeral 0 1)))))) 1
       (OneImplication
       (OneDisjunction (OneConjunction (OneNegation (OneRelation (OneArithmetic (OneTerm (OneFactor (OnePrimary
-            (Numeral 0 1))))))))))
+      (Numeral 0 1))))))))))
       1
       (sum_expr
       (Summed
@@ -245,7 +245,7 @@ deep_enough = record {
       (plainly
       (CallStatement
       (WithActuals (name 0 2) 2
-            (OneExpr (only (OneCall (WithActuals (name 8 2) 2 (OneExpr (number 3 2)) NoActuals 2)))) NoActuals 2)))
+      (OneExpr (only (OneCall (WithActuals (name 8 2) 2 (OneExpr (number 3 2)) NoActuals 2)))) NoActuals 2)))
       NoStatements 2) 2);
   unread = [];
   permitted = 60;
@@ -262,7 +262,7 @@ one_word_too_deep = record {
   limit = 51;
   told = told_as ([]) (Stopped (Alarmed Stack)) 5 41 ([])
       (stop_at (live (InProcedure 1) 11 ∷ live (InProcedure 1) 11 ∷ live (InProcedure 2) 11 ∷ live InBlock 5
-          ∷ live InProgram 3 ∷ []) 1);
+      ∷ live InProgram 3 ∷ []) 1);
 }
 
 --     _begin _integer n; n := 3; _begin _integer _array a, b[1:n];
@@ -309,7 +309,7 @@ room_of_left_arrays = record {
       (plainly
       (OneGroup
       (MkBlock 1
-            (DeclareArrays (integer_word 1) 1 (MkSegment (MkNames (name 9 1) []) 1 (MkPair (number 1 1) 1 (alone 8 1)) [] 1) [])
+      (DeclareArrays (integer_word 1) 1 (MkSegment (MkNames (name 9 1) []) 1 (MkPair (number 1 1) 1 (alone 8 1)) [] 1) [])
       1 NoDeclarations
       (plainly
       (Assign (record { left = (LeftElement (Subscripted (name 9 1) 1 (alone 8 1) NoExprs 1)); becomes = 1 }) [] (alone 8 1)))
@@ -341,7 +341,7 @@ element_without_room = record {
       (OneConjunction
       (OneNegation
       (OneRelation (OneArithmetic (OneTerm (OneFactor (OnePrimary (OneElement (Subscripted (name 8 1) 1
-            (number 1 1) NoExprs 1)))))))))))
+      (number 1 1) NoExprs 1)))))))))))
       1 (alone 11 1)) NoExprs)) 1
       (MoreDeclarations (DeclareType (integer_word 1) (MkNames (name 10 1) [])) 1 NoDeclarations)
       (plainly (Jump 1 (only (OneElement (Subscripted (name 8 1) 1 (number 2 1) NoExprs 1)))))

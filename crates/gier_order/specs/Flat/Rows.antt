@@ -188,7 +188,7 @@ module _ (code : List ℕ) (size : ℕ) (m : Regs) where
   abbrev pub enters : (level room outer from count a : ℕ) → Row
   enters level room outer from count a =
       needs (can_enter room outer from count) (takes_room room (λ left greatest end.
-            goes a (called level room outer 0 from count left greatest end)))
+      goes a (called level room outer 0 from count left greatest end)))
 
   -- an expression has no address
   abbrev pub begins : (kind wanted a : ℕ) → Regs → Row
@@ -209,7 +209,7 @@ module _ (code : List ℕ) (size : ℕ) (m : Regs) where
   abbrev pub leaves : ℕ → Row
   leaves word =
       needs (nat_lt 0 m.depth) (local 3 (λ back. word_at m.base (λ old. needs (is_address back && is_place old) (goes back
-            (record outside { r = word })))))
+      (record outside { r = word })))))
 
   -- Groups of rows
 
@@ -258,12 +258,12 @@ module _ (code : List ℕ) (size : ℕ) (m : Regs) where
   abbrev pub is_array : (d at from : ℕ) → Bool
   is_array d at from =
       nat_le 1 d && (nat_le d 30 && (nat_le (at + 2 + 2 * d) size && (nat_le (from + 2 * d) size && (is_place (m.base + 2)
-            && is_address next))))
+      && is_address next))))
 
   abbrev pub array : (d at from : ℕ) → Row
   array d at from =
       needs (is_array d at from) (if are_ordered m.words from d
-            then takes_elements d at from (elements m.words from d) else alarms Bounds)
+      then takes_elements d at from (elements m.words from d) else alarms Bounds)
 
   -- the element of the array with a descriptor at a place, by the subscripts from another place on
   abbrev pub element_by : (d at from : ℕ) → Row
@@ -374,7 +374,7 @@ module _ (code : List ℕ) (size : ℕ) (m : Regs) where
   calls_kinded place kinds Bare = odd
   calls_kinded place kinds (Kinded n) = reads_procedure kinds.address (λ head count.
       needs (count / 2 == n) (word_at place (λ outer. enters head.level head.address outer (m.base + m.r) count
-            (kinds.address + 2))))
+      (kinds.address + 2))))
   calls_kinded place kinds Neither = odd
 
   -- The table
@@ -413,7 +413,7 @@ module _ (code : List ℕ) (size : ℕ) (m : Regs) where
   effect Turn l a = local a (λ w. needs (is_address w) (pays m.left w m))
   effect Block l a =
       needs (nat_le 3 a && (is_place m.base && is_address next)) (takes_room a (λ left greatest end.
-            on (inside l a m.base 0 left greatest end)))
+      on (inside l a m.base 0 left greatest end)))
   effect Leave l a = needs (nat_lt 0 m.depth) (word_at m.base (λ old. needs (is_place old) (on outside)))
   effect Array l a = array l (m.base + a) (m.base + m.r)
   effect Index l a = needs (is_index l a) (element l (m.words (m.base + a)) (m.base + a + 1))
@@ -428,22 +428,25 @@ module _ (code : List ℕ) (size : ℕ) (m : Regs) where
   effect NameL l a = cell_pair l a (λ k outer. evaluates k outer for_label)
   effect Pass l a =
       local 4 (λ wanted. needs ((wanted == for_value) || (wanted == for_address)) (cell_pair l a (λ k outer.
-            evaluates k outer wanted)))
+      evaluates k outer wanted)))
   effect Back l a = local 4 (λ wanted. needs (nat_le 1 wanted && nat_le wanted 3) (leaves m.r))
   effect Give l a = local 4 (λ wanted.
       needs ((wanted == for_value) || (wanted == for_address)) (if wanted == for_value
-            then word_at m.r (λ value. leaves value) else leaves m.r))
+      then word_at m.r (λ value. leaves value) else leaves m.r))
   effect Lib l a = needs (is_address next) (procedure a)
   effect Switch l a = in_level l (λ outer. switches a outer)
   effect SwForm l a = cell_pair l a (λ table outer. switches table outer)
   effect Lab l a = in_level l (λ b. on (record m { r = a; q = b }))
   effect Go l a = if m.r == 0 then on m else word_at (m.q + 2) (λ top.
-      needs (nat_le top size && is_address m.r) (pays m.left m.r (record m { base = m.q; top = top;
-            greatest = max m.greatest top })))
+      needs (nat_le top size && is_address m.r) (pays m.left m.r (record m {
+        base = m.q;
+        top = top;
+        greatest = max m.greatest top;
+      })))
   effect Base l a = if l == 0 then gives m.base else in_level l (λ b. gives b)
   effect Kinds l a = odd
   effect Agree l a = reads code next (λ count. cell_word l a (λ place k. reads_order k (λ head.
-        agrees_with k (next + 1) count (formals_handed head))))
+      agrees_with k (next + 1) count (formals_handed head))))
   effect ByVal l a = cell_word l a (λ place k. reads_order k (λ head. looks_in k (formals_handed head)))
   effect CallF l a = cell_word l a (λ place k. reads_order k (λ kinds. calls_kinded (place + 1) kinds (formals_handed kinds)))
 

@@ -118,5 +118,5 @@ final_of s Unfinished = record { ending = Spoilt s.regs.place 0; state = s }
 abbrev pub flat : List ℕ → (start : ℕ) → List ℕ → (steps size : ℕ) → Report
 flat code start input steps size =
     report_of steps
-        (final_of (machine_at_start start input steps) (exec (one code size) (enough code (machine_at_start start input steps))
-          (machine_at_start start input steps)))
+    (final_of (machine_at_start start input steps) (exec (one code size) (enough code (machine_at_start start input steps))
+    (machine_at_start start input steps)))

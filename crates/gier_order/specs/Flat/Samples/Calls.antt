@@ -63,7 +63,7 @@ passed_on = sample
     [] 20 60
     (report (51 ∷ 48 ∷ 51 ∷ []) Ended 4 21 [] 22 (program 11 ∷ [])
     (0 ∷ 1 ∷ 2 ∷ 3 ∷ 10 ∷ 11 ∷ 12 ∷ 13 ∷ 14 ∷ 15 ∷ 16 ∷ 17 ∷ 18 ∷ 7 ∷ 8 ∷ 4 ∷ 5 ∷ 6 ∷ 9 ∷ 19 ∷ 20 ∷ 7 ∷ 8 ∷ 4 ∷ 5 ∷ 6
-          ∷ 9 ∷ 21 ∷ 22 ∷ []))
+    ∷ 9 ∷ 21 ∷ 22 ∷ []))
 
 -- a go to that leaves a procedure, by a label formal
 abbrev pub label_formal : Sample

@@ -112,7 +112,7 @@ array = sample
     [] 20 60
     (report (50 ∷ 49 ∷ 55 ∷ 55 ∷ []) Ended 0 22 [] 26 (program 22 ∷ [])
     (0 ∷ 1 ∷ 2 ∷ 3 ∷ 4 ∷ 5 ∷ 6 ∷ 7 ∷ 8 ∷ 9 ∷ 10 ∷ 11 ∷ 12 ∷ 13 ∷ 14 ∷ 15 ∷ 16 ∷ 17 ∷ 18 ∷ 19 ∷ 20 ∷ 21 ∷ 22 ∷ 23
-          ∷ 24 ∷ 25 ∷ 26 ∷ []))
+    ∷ 24 ∷ 25 ∷ 26 ∷ []))
 
 -- a string of seven bytes, a byte, a new line
 abbrev pub printing : Sample
