@@ -1,33 +1,28 @@
-"""The objects that tests/objects and tests/addresses run: of programs of the model's generator, and random ones. It runs nothing."""
+"""The objects that tests/objects and tests/addresses run: of programs of the model's generator, and random ones. No program is run here,
+but the model's runs are told as object_run tells its own."""
 import random
 
-from shared import generated, load
+from model import orders
+from model.answer import answer
+from model.flat import Flat
+from shared import LARGEST_SIZE, generated
 
 LARGEST = 1 << 40
 SIGNED = 1 << 39
 ORDERS = 55
 
-
-def modules():
-    """Of the model: the flat run, the answers, the orders."""
-    return load("flat", "gier", "orders")
-
-
-def made(seed, largest):
-    """A tape of the generator, without damages."""
-    chance = random.Random(seed)
-    return generated(seed, ["size=%d" % chance.randint(4, largest), "hazard=%d" % chance.randint(0, 3), "spelling=any"])
+# The kinds of choices, and the size of programs of which words are changed.
+KINDS = ("programs", "random")
+LARGEST_TO_CHANGE = 6
 
 
-def object_of(gier, seed, largest):
+def object_of(seed, largest):
     """The words and the data of a program, or None where it has errors."""
-    _, _, info = gier.answer(["run", "steps=0"], made(seed, largest))
-    if "run" not in info:
-        return None
-    return list(info["run"].words), bytes(info["run"].data)
+    run = answer(["run", "steps=0"], generated(seed, largest=largest), texts=False).run
+    return None if run is None else (list(run.words), bytes(run.data))
 
 
-def an_order(orders, chance, most):
+def an_order(chance, most):
     """An order whose addresses are mostly small, so that much of what it names is there."""
     number = chance.randint(1, ORDERS)
     level = chance.choice([0, 0, 1, 1, 2, 3, chance.randint(0, 255)]) if orders.HAS_LEVEL[number] else 0
@@ -35,45 +30,45 @@ def an_order(orders, chance, most):
     return orders.code(number, level, address if orders.HAS_ADDRESS[number] else 0)
 
 
-def hand_made(orders, chance):
+def hand_made(chance):
     """An object that begins with START, and goes on as it comes."""
     count = chance.randint(1, 60)
     words = [orders.code(1, chance.randint(0, 2), chance.randint(2, 9))]
     for _ in range(count):
         if chance.random() < 0.9:
-            words.append(an_order(orders, chance, count))
+            words.append(an_order(chance, count))
         else:
             words.append(chance.choice([0, chance.randint(0, 600), chance.randrange(LARGEST)]))
     return words, bytes(chance.randint(0, 255) for _ in range(chance.randint(0, 6)))
 
 
-def changed(orders, chance, words):
+def changed(chance, words):
     """The same words but for a few."""
     words = list(words)
     for _ in range(chance.randint(1, 5)):
         at = chance.randrange(len(words))
-        words[at] = chance.choice([an_order(orders, chance, len(words)), words[at] ^ (1 << chance.randint(0, 39)),
+        words[at] = chance.choice([an_order(chance, len(words)), words[at] ^ (1 << chance.randint(0, 39)),
                                    chance.randrange(LARGEST)])
     return words
 
 
-def chosen(model, kind, seed):
+def chosen(kind, seed):
     """Words, start, data, places, steps and stack of a run, or None where the seed gives none."""
-    _, gier, orders = model
     chance = random.Random(-seed - 1)
     start = 0
     if kind == "random" and chance.random() < 0.6:
-        words, data = hand_made(orders, chance)
+        words, data = hand_made(chance)
         start = chance.choice([0, 0, 0, chance.randrange(len(words))])
     else:
-        found = object_of(gier, seed, 20 if kind == "programs" else 6)
+        found = object_of(seed, LARGEST_SIZE if kind == "programs" else LARGEST_TO_CHANGE)
         if found is None:
             return None
         words, data = found
         if kind == "random":
-            words = changed(orders, chance, words)
+            words = changed(chance, words)
     stack = chance.choice([20, 60, 200, 1000, 20000])
-    return words, start, data, chance.randint(1, 64) if chance.random() < 0.5 else chance.randint(1, 4), chance.randint(0, 3000), stack
+    places = chance.randint(1, 64) if chance.random() < 0.5 else chance.randint(1, 4)
+    return words, start, data, places, chance.randint(0, 3000), stack
 
 
 def numbers_of(job):
@@ -82,10 +77,10 @@ def numbers_of(job):
     return " ".join(str(number) for number in [len(words), start, places, steps, stack, len(data)] + signed + list(data))
 
 
-def run_of(flat, job):
+def run_of(job):
     """The model's run, with the addresses of the words of the object that it read."""
     words, start, data, places, steps, stack = job
-    return flat.Flat(words, data, steps, stack, start, places, keep_refs=True, keep_misses=True).run()
+    return Flat(words, data, steps, stack, start, places, keep_refs=True, keep_misses=True).run()
 
 
 def lines_of(run, job):

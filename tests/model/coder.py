@@ -1,18 +1,10 @@
-"""The code of a program: text 7, text 8 and the object.
-
-`text7(program)` walks the hoisted tree and writes the symbols of text 7.
-`text8` and `words` are functions of text 7.
-"""
-
-import choices
-import orders as o
-from need import block_header, block_need, need, statement_need
-from scope import (ARRAY_FORMALS, ARRAYS, LABEL, LABEL_FORMAL, NAME_FORMALS, PROC_FORMALS,
-                   PROCEDURES, STRING_FORMAL, SWITCH, SWITCH_FORMAL, VALUE_FORMALS,
-                   VARIABLES)
-from tree import (ArrayDecl, Assign, Binary, Block, CallStatement, Compound, Conditional,
-                  For, Goto, Ident, If, Index, Logical, Number, Paren, ProcDecl, String,
-                  SwitchDecl, Unary)
+"""From the hoisted tree to text 7, the orders with open addresses, and from there to text 8 and the words of the object."""
+from model import orders as o
+from model.room import block_header, block_need, need, statement_need
+from model.scope import (ARRAY_FORMALS, ARRAYS, LABEL, LABEL_FORMAL, NAME_FORMALS, PROC_FORMALS, PROCEDURES, STRING_FORMAL,
+                         SWITCH, SWITCH_FORMAL, VALUE_FORMALS, VARIABLES)
+from model.tree import (ArrayDecl, Assign, Binary, Block, CallStatement, Compound, Conditional, For, Goto, Ident, If, Index,
+                        Logical, Number, Paren, ProcDecl, String, SwitchDecl, Unary)
 
 WORD, MARK, LABELLED, LABEL_WORD, OPEN_ROOM, NEED, LAST = range(120, 127)
 
@@ -26,7 +18,7 @@ class Label:
 
 
 def string_words(data):
-    """The number of bytes, then the bytes, five per word."""
+    """The words of a string: the number of bytes, then the bytes, five per word."""
     out = [len(data)]
     for i in range(0, len(data), 5):
         out.append(int.from_bytes(data[i:i + 5].ljust(5, b"\0"), "big"))
@@ -45,7 +37,7 @@ def pack(kinds):
 
 
 def formal_kind(kind):
-    """The kind of a formal in a packed word, from its kind as an identifier."""
+    """The kind of a formal as a word of kinds has it."""
     return {11: 1, 12: 2, 13: 3, 14: 4, 17: 5, 15: 6, 16: 7, 18: 8, 19: 9,
             20: 10, 21: 11, 22: 12}[kind]
 
@@ -234,8 +226,6 @@ class Coder:
             if parts:
                 self.free_call(entity, parts, w, line)
             else:
-                if choices.SHORT_BEFORE_FORMAL:
-                    self.order(o.SHORT, 0, w, line)
                 self.order(o.FORMAL, entity.level, entity.address, line)
         else:
             for i, (formal, a) in enumerate(zip(entity.formals, parts)):
@@ -425,7 +415,7 @@ class Coder:
     def element(self, element, variable, s, w):
         line = element.first.line
         v = variable.entity
-        v_line = variable.sym.line if choices.FOR_VARIABLE_LINE == "own" else line
+        v_line = variable.sym.line
 
         def set_begin():
             self.address_of(v, v_line)
@@ -505,8 +495,6 @@ class Coder:
             self.order(o.KEEP, 0, w + i, line)
         d = len(s.bounds) // 2
         for declared in s.idents:
-            if choices.ARRAY_LINE == "array":
-                line = declared.sym.line
             self.order(o.SHORT, 0, w, line)
             self.order(o.ARRAY, d, declared.entity.address, line)
 
@@ -615,7 +603,7 @@ def text8(text):
 
 
 def words(text):
-    """code(tree) from text 7: a list of 40-bit words."""
+    """The object from text 7: a list of 40-bit words."""
     place, room = addresses(text), rooms(text)
     out = []
     for i, (tag, value, _) in enumerate(text):
@@ -634,7 +622,7 @@ def words(text):
 
 
 def words_of_text8(text):
-    """code(tree) from text 8, as pass 9 gives it; a check on text8."""
+    """The object from text 8, as the last pass gives it; a check of text 8."""
     place, at = {}, 0
     for tag, value, _ in text:
         if tag == MARK:

@@ -1,7 +1,9 @@
-"""The words of the command line, and the text of a sample."""
+"""The words of the command line, and the sample, a program of a chosen length."""
 
 
 class Command:
+    """What the words ask for."""
+
     def __init__(self, check):
         self.check = check
         self.places, self.steps, self.stack = 8, 10000000, 20000
@@ -48,7 +50,7 @@ def read_words(words):
 
 
 def sample(k):
-    """The program text of sample=k."""
+    """The sample of k calls."""
     lines = ["_begin _integer s,j;",
              "_procedure p(x); _integer x; s:=x;",
              "_for j:=1 _step 1 _until 3 _do _begin"]

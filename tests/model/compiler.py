@@ -1,20 +1,14 @@
-"""The whole way from a program text to the error list, or to texts 1 to 8 and the
-object."""
-
-import coder
-import lexer
-import texts
-from kinds import type_faults
-from scope import allocate, hoist, resolve
-from structure import structure_fault
-from tree import build
+"""The whole way from the text of a program to its faults, or to texts 1 to 8 and the object."""
+from model import coder, lexer, texts
+from model.kinds import type_faults
+from model.scope import allocate, hoist, resolve
+from model.structure import structure_fault
+from model.tree import build
 
 
 class Compiled:
-    """errors: list of (line, text), empty for a program of the profile; list 0
-    is [(None, "program too long")].  program: the hoisted tree.  text: a dict
-    of the texts 1 to 6 (with `full`) or 1 to 2.  object texts are made by
-    `back`."""
+    """What the compiler makes of a program: `errors`, a list of (line, text), which is empty where there are none; `list_number`,
+    that of the list of faults; `program`, the hoisted tree; `text`, its texts by their numbers; `words`, the object."""
 
     def __init__(self):
         self.errors = []
@@ -25,7 +19,7 @@ class Compiled:
         self.bytes = 0
 
     def print_errors(self):
-        """The error list as it is printed."""
+        """The lines that are printed for the faults."""
         out = b""
         for line, text in self.errors:
             if line is None:
@@ -33,6 +27,14 @@ class Compiled:
             else:
                 out += b"line %d %s\n" % (line, text.encode())
         return out
+
+
+def too_long():
+    """What is made of a program that is too long."""
+    compiled = Compiled()
+    compiled.list_number = 0
+    compiled.errors = [(None, "program too long")]
+    return compiled
 
 
 def front(text, texts_too=True):

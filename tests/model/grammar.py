@@ -1,17 +1,11 @@
-"""The grammar of the language, written as data.
+"""The grammar of the language as data, and a recogniser that is right by construction but slow.
 
-`TEXT` is that of docs/LANGUAGE.md.  `rules()` reads that notation and gives
-plain productions.  `earley` is a recogniser over them that is right by
-construction; it says where the fault `structure` stands.
-
-The side conditions in prose beside the grammar need no code of their own, for in these
-rules `cond` has no `cond` after `_then`, and its `for` alternative takes no
-`_else`.  The limit of 30 pairs is written out by nesting.
-"""
-
+`TEXT` is the grammar, `rules` reads it into plain productions, and `earley` tells where a list of symbols stops being the
+beginning of a program. After `_then` stands no `_if`, and no `_else` behind a for statement: that is so by the rules `cond`
+and `uncond`. An own array has at most 30 bound pairs, which are written out by nesting."""
 import re
 
-from lexer import SIGNS, WORDS
+from model.lexer import SIGNS, WORDS
 
 TEXT = r'''
 program     = { ident ":" } ( block | compound )
@@ -56,7 +50,7 @@ term        = factor { ( "*" | "_div" ) factor }
 factor      = primary { "^" primary }
 primary     = number | "_true" | "_false" | "(" expr ")" | call
             | ident "[" expr { "," expr } "]"
-'''.replace("@PAIRS@", '[ "," pair ' * 29 + "] " * 29)   # at most 30 pairs
+'''.replace("@PAIRS@", '[ "," pair ' * 29 + "] " * 29)
 
 TERMINALS = {'"%s"' % sign: tag for sign, tag in SIGNS.items()}
 TERMINALS.update({'"_%s"' % word: tag for word, tag in WORDS.items()})
@@ -68,7 +62,7 @@ def tokens_of(text):
 
 
 class Reader:
-    """Reads the notation of the grammar into productions name -> list of bodies.
+    """Reads the notation of `TEXT` into productions name -> list of bodies.
 
     A body is a tuple whose parts are tags (int) and rule names (str)."""
 

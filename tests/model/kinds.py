@@ -1,15 +1,8 @@
-"""Types of expressions, and the faults of types.
-
-Run on a tree without faults of scopes.  Own declarations raise nothing.
-"""
-
-import choices
-from scope import (ARRAY_FORMALS, ARRAYS, LABEL, LABEL_FORMAL, NAME_FORMALS, PROC_FORMALS,
-                   PROCEDURES, STRING_FORMAL, SWITCH, SWITCH_FORMAL, VALUE_FORMALS,
-                   VARIABLES, one_each)
-from tree import (ArrayDecl, Assign, Binary, Block, CallStatement, Compound, Conditional,
-                  For, Goto, Ident, If, Index, Logical, Number, Paren, ProcDecl, String,
-                  SwitchDecl, TypeDecl, Unary)
+"""The faults of types, found on a tree without faults of scopes; each expression is given its type. Own declarations raise none."""
+from model.scope import (ARRAY_FORMALS, ARRAYS, LABEL, LABEL_FORMAL, NAME_FORMALS, PROC_FORMALS, PROCEDURES, STRING_FORMAL,
+                         SWITCH, SWITCH_FORMAL, VALUE_FORMALS, one_each)
+from model.tree import (ArrayDecl, Assign, Binary, Block, CallStatement, Compound, Conditional, For, Goto, Ident, If, Index,
+                        Logical, Number, Paren, ProcDecl, String, SwitchDecl, Unary)
 
 I, B, LAB, UNKNOWN = "integer", "boolean", "label", None
 
@@ -19,7 +12,7 @@ FAULTS = ("list too long", "value", "kind", "subscripts", "parameter count", "pa
  DESIGNATIONAL, ASSIGNMENT, OPERAND) = range(13)
 
 OUTINTEGER, OUTTEXT, OUTCR, OUTCHAR, ININTEGER, INCHAR, ABS, SIGN = range(31, 39)
-# Formals of the standard procedures as kinds
+# The kinds of the formals of the standard procedures.
 STANDARD_FORMALS = {OUTINTEGER: [11], OUTTEXT: [19], OUTCR: [], OUTCHAR: [11],
                     ININTEGER: [], INCHAR: [], ABS: [11], SIGN: [11]}
 
@@ -30,7 +23,7 @@ ELEMENT_TYPES = {3: I, 4: B, 15: I, 16: B}
 
 
 def alone_type(entity):
-    """An identifier alone in an expression: (allowed, type, whether it is a call)."""
+    """An identifier alone in an expression: (whether that is allowed, its type, whether it is a call)."""
     k = entity.kind
     if k in VALUE_TYPES:
         return True, VALUE_TYPES[k], False
@@ -109,21 +102,18 @@ class Kinds:
         """Array element or switch designator; left_part: as a left part."""
         entity = e.ident.entity
         k = entity.kind
-        bad = False
         if k in ELEMENT_TYPES:
             t = ELEMENT_TYPES[k]
         elif k in (SWITCH, SWITCH_FORMAL) and not left_part:
             t = LAB
         else:
-            bad, t = True, UNKNOWN
+            t = UNKNOWN
             self.fault(e.ident.sym, KIND)
         n = len(e.parts)
         if n > MOST_SUBSCRIPTS:
             self.fault(e.marks[MOST_SUBSCRIPTS], TOO_LONG)
-        if not (bad and choices.KIND_SUPPRESSES_COUNTS):
-            if (k in ARRAYS and n != entity.count) or (
-                    k in (SWITCH, SWITCH_FORMAL) and n != 1):
-                self.fault(e.marks[0], SUBSCRIPTS)
+        if (k in ARRAYS and n != entity.count) or (k in (SWITCH, SWITCH_FORMAL) and n != 1):
+            self.fault(e.marks[0], SUBSCRIPTS)
         for mark, part in zip(e.marks, e.parts):
             if self.type_of(part) not in (I, UNKNOWN):
                 self.fault(mark, SUBSCRIPTS)
@@ -152,8 +142,7 @@ class Kinds:
         elif k in STANDARD_FORMALS:
             formals = STANDARD_FORMALS[k]
         if formals is not None and n != len(formals):
-            if good or not choices.KIND_SUPPRESSES_COUNTS:
-                self.fault(e.marks[0], COUNT)
+            self.fault(e.marks[0], COUNT)
         for i, (mark, a) in enumerate(zip(e.marks, e.parts)):
             if not good:
                 self.own_faults(a)
@@ -187,14 +176,14 @@ class Kinds:
             self.own_faults(a)
 
     def fits(self, formal, a):
-        """Whether an actual fits a formal; adds the actual's own faults."""
+        """Whether an actual fits a formal of this kind; the actual's own faults are added."""
         alone = isinstance(a, Ident)
         if not alone and not isinstance(a, String):
             t = self.type_of(a)
             if formal in VALUE_FORMALS or formal in NAME_FORMALS or formal == LABEL_FORMAL:
                 wanted = LAB if formal == LABEL_FORMAL else VALUE_TYPES[formal]
                 return t in (wanted, UNKNOWN)
-            return t is UNKNOWN and choices.UNKNOWN_FITS_EVERY_FORMAL
+            return t is UNKNOWN
         if formal in VALUE_FORMALS or formal in NAME_FORMALS or formal == LABEL_FORMAL:
             if not alone:
                 return False
@@ -312,5 +301,5 @@ class Kinds:
 
 
 def type_faults(program):
-    """The faults of types, in order of symbols."""
+    """The faults of types of a program."""
     return Kinds(program).list5()

@@ -1,18 +1,19 @@
-"""The symbols of a program text, and assembled identifiers and numbers.
+"""From a tape to text 1, the symbols of a program, and to text 2, where identifiers and numbers are assembled.
 
-A symbol is a tuple (tag, value, line) with the tags of docs/MACHINE.md.  A fault is
-a tuple (position, line, text), in order of position.
-"""
+A symbol is a tuple (tag, value, line). A fault is a tuple (position, line, text), and faults come in the order of positions.
+Nothing here knows of structure."""
 
-import choices
+# So many bytes a program has at most.
+LONGEST_PROGRAM = 524288
 
-L = 524288                      # bytes of the longest program
-DATA_LIMIT = 16777216           # bytes of data
-NUMBER_LIMIT = 549755813887     # the greatest number
+# The greatest number.
+NUMBER_LIMIT = 549755813887
 
+# The standard procedures. Their places here are their identifier numbers.
 STANDARD = ("outinteger", "outtext", "outcr", "outchar",
-            "ininteger", "inchar", "abs", "sign")     # in the order of LIB
+            "ininteger", "inchar", "abs", "sign")
 
+# Tags of signs and of word symbols.
 SIGNS = {"+": 10, "-": 11, "*": 12, "^": 14, "<": 15, "<=": 16, "=": 17,
          ">=": 18, ">": 19, "<>": 20, ",": 28, ":": 29, ";": 30, ":=": 31,
          "(": 32, ")": 33, "[": 34, "]": 35}
@@ -21,7 +22,9 @@ WORDS = {"div": 13, "not": 21, "and": 22, "or": 23, "impl": 24, "equiv": 25,
          "else": 40, "for": 41, "step": 42, "until": 43, "while": 44, "do": 45,
          "goto": 46, "integer": 47, "boolean": 48, "array": 49, "switch": 50,
          "procedure": 51, "string": 52, "label": 53, "value": 54, "own": 55,
-         "comment": 56}                               # comment is 56 in both spellings
+         "comment": 56}
+
+BEGIN, END, ELSE, COMMENT, SEMICOLON = WORDS["begin"], WORDS["end"], WORDS["else"], WORDS["comment"], SIGNS[";"]
 
 LAYOUT = frozenset((9, 10, 13, 32))
 PLAIN_WORDS = {name.encode(): tag for name, tag in WORDS.items()}
@@ -30,21 +33,21 @@ SIGN_BYTES = {name.encode(): tag for name, tag in SIGNS.items()}
 
 
 def program_of(tape):
-    """The program text of a tape, or None where it is too long.
+    """(The bytes of the program, or None where it is too long; how many bytes of the tape are taken for it).
 
-    Answers (program bytes or None, number of bytes taken for it)."""
-    at = tape.find(b"#", 0, L + 1)
+    The program ends before the first `#`, which is taken with it, or with the tape."""
+    at = tape.find(b"#", 0, LONGEST_PROGRAM + 1)
     if at >= 0:
         return tape[:at], at + 1
-    if len(tape) > L:
-        return None, L + 1
+    if len(tape) > LONGEST_PROGRAM:
+        return None, LONGEST_PROGRAM + 1
     return tape, len(tape)
 
 
 def read_word(text, at, quoted):
-    """A word at `at`: (tag or None for a word fault, place after it).
+    """A word symbol at `at`: (its tag, or None where it is none; the place behind it).
 
-    In either spelling."""
+    A plain one is `_` and all small letters behind it; a quoted one is capital letters between two `'`."""
     n = len(text)
     stop = at + 1
     if not quoted:
@@ -60,7 +63,7 @@ def read_word(text, at, quoted):
 
 
 def symbols(text):
-    """(text 1, the faults of bytes, words and strings)."""
+    """(Text 1; the faults of characters, words and strings). A program that begins with `!` is in the quoted spelling."""
     out, faults = [], []
     n = len(text)
     at, line = 0, 1
@@ -68,15 +71,15 @@ def symbols(text):
     if quoted:
         at = 1                       # `!` gives nothing
     starter = 39 if quoted else 95   # ' or _
-    fresh = False                    # directly after `;` or begin (rule 6)
+    fresh = False                    # directly behind `;` or begin, where a comment may stand
     while at < n:
         c = text[at]
-        if c in LAYOUT:                                   # rule 1
+        if c in LAYOUT:                                   # layout
             if c == 10:
                 line += 1
             at += 1
             continue
-        if 97 <= c <= 122 or 65 <= c <= 90:               # rule 2
+        if 97 <= c <= 122 or 65 <= c <= 90:               # letters
             out.append((1, c, line))
             fresh = False
             at += 1
@@ -86,30 +89,30 @@ def symbols(text):
             fresh = False
             at += 1
             continue
-        if c == starter:                                  # rule 4
+        if c == starter:                                  # word symbols
             tag, stop = read_word(text, at, quoted)
-            if tag is None or (tag == 56 and not fresh):
+            if tag is None or (tag == COMMENT and not fresh):
                 faults.append((at, line, "word"))
                 fresh = False
                 at = stop
                 continue
             at = stop
-            if tag == 56:                                 # rule 6
+            if tag == COMMENT:                             # comments
                 end = text.find(b";", at)
                 end = n if end < 0 else end + 1
                 line += text.count(b"\n", at, end)
                 at = end
                 continue                                  # `fresh` stays
             out.append((tag, 0, line))
-            fresh = tag == 36
-            if tag == 37:                                 # rule 7
+            fresh = tag == BEGIN
+            if tag == END:                                # and what stands behind end
                 while at < n:
                     c = text[at]
                     if c == 59:
                         break
                     if c == starter:
                         tag, stop = read_word(text, at, quoted)
-                        if tag == 37 or tag == 40:
+                        if tag in (END, ELSE):
                             break
                         at = stop
                         continue
@@ -117,7 +120,7 @@ def symbols(text):
                         line += 1
                     at += 1
             continue
-        if c == 123:                                      # rule 5
+        if c == 123:                                      # strings
             depth, stop = 1, at + 1
             while stop < n:
                 d = text[stop]
@@ -140,25 +143,25 @@ def symbols(text):
             fresh = False
             at = stop + 1
             continue
-        tag = SIGN_BYTES.get(text[at:at + 2])             # rule 3
+        tag = SIGN_BYTES.get(text[at:at + 2])             # signs
         size = 2
         if tag is None or at + 2 > n:
             tag = SIGN_BYTES.get(text[at:at + 1])
             size = 1
-        if tag is None:                                   # rule 8
+        if tag is None:                                   # no symbol begins so
             faults.append((at, line, "character"))
             fresh = False
             at += 1
             continue
         out.append((tag, 0, line))
-        fresh = tag == 30
+        fresh = tag == SEMICOLON
         at += size
     out.append((8, 0, 1 + text.count(b"\n")))
     return out, faults
 
 
 def assembled(text1):
-    """(text 2, the faults of numbers, names by identifier number)."""
+    """(Text 2; the faults of numbers; the identifiers by their numbers). `)`, letters, `:` and `(` become a comma."""
     out, faults = [], []
     letters_only = []                # beside `out`: identifier of letters only
     numbers = {name: i for i, name in enumerate(STANDARD)}
@@ -213,8 +216,7 @@ def assembled(text1):
         if (s[0] == 33 and at + 3 < n and out[at + 1][0] == 3
                 and letters_only[at + 1] and out[at + 2][0] == 29
                 and out[at + 3][0] == 32):
-            if choices.COMMA_WORD_TAKES_NUMBER:
-                number_of(out[at + 1][1])
+            number_of(out[at + 1][1])
             final.append((28, 0, s[2]))
             at += 4
             continue

@@ -1,5 +1,6 @@
-"""Numbers of the orders, and the word of an order."""
+"""The orders of the machine: names and numbers, the fields that each has, and how an order stands in a word.
 
+A word has 40 bits. An order is its number times 2^32, its level times 2^24, and its address; a field that it hasn't is 0."""
 NAMES = ("", "START", "STOP", "TAKE", "SHORT", "LONG", "KEEP", "ADDR", "FETCH", "PUT",
          "ADD", "SUB", "MUL", "DIV", "POW", "NEG", "LT", "LE", "EQ", "GE", "GT", "NE",
          "NOT", "AND", "OR", "IMPL", "EQUIV", "JUMP", "FALSE", "TEST", "TURN", "BLOCK",
@@ -11,7 +12,7 @@ for _i, _name in enumerate(NAMES):
     if _name:
         globals()[_name] = _i
 
-# Fields that a row names.
+# The orders that have a level, and those that have no address.
 _LEVEL = {"START", "TAKE", "ADDR", "BLOCK", "ARRAY", "INDEX", "PROC", "CALL", "FORMAL",
           "THUNK", "VALUE", "PLACE", "NAMEL", "PASS", "SWITCH", "SWFORM", "LAB", "BASE",
           "KINDS", "AGREE", "BYVAL", "CALLF"}
@@ -27,7 +28,7 @@ def code(op, level, address):
 
 
 def decode(word):
-    """(op, level, address), or None where the word is the code of no order."""
+    """(op, level, address), or None where the word is no order."""
     op, level, address = word >> 32, (word >> 24) & 255, word & 0xFFFFFF
     if not 1 <= op <= 55:
         return None

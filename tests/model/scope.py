@@ -1,15 +1,11 @@
-"""Scopes: declarations, uses and their faults, own quantities, addresses.
+"""Scopes: which declaration each use means, the faults of that, and the levels, addresses and numbers of what is declared.
 
-`resolve(program)` gives list 4 of the written tree and ties each use to its
-`Entity`.  `hoist(program)` moves own quantities to a block around it.  `allocate(program)` gives levels' places
-and numbers on the hoisted tree.
-"""
+`resolve` finds the faults and ties each use to its `Entity`. `hoist` moves own quantities to a block of their own around the
+program, and `allocate` gives addresses and numbers on the hoisted tree."""
+from model.tree import (Assign, Binary, Block, Call, CallStatement, Compound, Conditional, For, Goto, Ident, If,
+                        Index, OwnPlace, Paren, ProcDecl, Program, Sym, SwitchDecl, TypeDecl, Unary, ArrayDecl)
 
-from tree import (Assign, Binary, Block, Call, CallStatement, Compound, Conditional,
-                  Declared, For, Goto, Ident, If, Index, OwnPlace, Paren, ProcDecl,
-                  Program, Sym, SwitchDecl, TypeDecl, Unary, ArrayDecl)
-
-# Kinds of identifiers
+# Kinds of entities.
 INTEGER, BOOLEAN, LABEL, SWITCH, PROCEDURE = 1, 2, 5, 6, 7
 VARIABLES = (1, 2)
 ARRAYS = (3, 4)
@@ -30,8 +26,8 @@ GREATEST_LEVEL = 255
 
 
 class Entity:
-    """A declared identifier: kind, identifier number, level and address
-    count of dimensions or formals, and for a procedure its declaration."""
+    """A declared identifier: its kind, identifier number, level and address, the count of its subscripts or formals, and for a
+    procedure its declaration."""
     __slots__ = ("kind", "name", "level", "address", "count", "decl", "own",
                  "formals", "in_value", "spec")
 
@@ -39,7 +35,7 @@ class Entity:
         self.kind, self.name, self.decl = kind, name, decl
         self.level = self.address = 0
         self.count = 0
-        self.own = None                # its number among the own quantities
+        self.own = None                # of an own quantity its number
         self.formals = None
         self.in_value = False
         self.spec = None
@@ -110,7 +106,7 @@ class Resolver:
                 todo.append(s.yes)
 
     def program(self, p):
-        level = 2 if p.owns else 1               # the block around the program counts
+        level = 2 if p.owns else 1
         scope, p.scope = Scope(self.outer), []
         self.labels_of(scope, p.scope, [p.statement], level)
         self.statement(p.statement, scope, level)
@@ -264,7 +260,7 @@ class Resolver:
 
 
 def one_each(faults, texts):
-    """In order of symbols, one for each symbol, first in the table."""
+    """In the order of symbols, and for each symbol the fault that stands first in the table."""
     out, last = [], -1
     for pos, row, line in sorted(faults):
         if pos != last:
@@ -274,7 +270,7 @@ def one_each(faults, texts):
 
 
 def resolve(program):
-    """The faults of scopes of the written tree."""
+    """The faults of scopes of the tree as it is written."""
     r = Resolver(program)
     i = 0
     for d in program.owns:                       # numbers in source order
@@ -291,7 +287,7 @@ def own_idents(d):
 
 
 def hoist(written):
-    """The hoisted tree.  The entities of own quantities are shared with their uses."""
+    """Own quantities in a block around the program, before all others. The entities of own quantities are shared with their uses."""
     if not written.owns:
         written.written = written
         return written
@@ -340,7 +336,7 @@ def replace_owns(statement, owns):
 
 
 def declared_in(block):
-    """The entities that the block declares in the hoisted tree.  An own
+    """The entities that the block declares in the hoisted tree. An own
     quantity has level 2, which only the hoisted block has where there is one."""
     return [e for e in block.scope if e.own is None or block.level == 2]
 

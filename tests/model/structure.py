@@ -1,15 +1,10 @@
-"""Where the fault `structure` stands, by a predictive recogniser.
+"""Where the fault `structure` stands, found by a predictive recogniser in linear time.
 
-`LL_TEXT` is the grammar with common beginnings factored out, in
-the same notation.  The table is computed from it and it is checked that no
-cell has two productions.  Such a recogniser keeps on its stack a rest that
-ends what was read to a spelling (all rules are productive), so each list that
-it has taken is a prefix of one; and it refuses a symbol only where no cell
-allows it, so no spelling goes on with it.  tests/test_structure.py checks the
-factored grammar against `grammar.earley` over the grammar as it is written.
-"""
-
-from grammar import Reader
+`LL_TEXT` is the grammar of grammar.py with common beginnings factored out. The table is computed from it, with a check that no
+cell has two productions. The recogniser keeps on its stack a rest that ends what was read to a program, so each list that it
+has taken is the beginning of one; and it refuses a symbol only where no program goes on with it. The tests compare it with
+`grammar.earley`."""
+from model.grammar import Reader
 
 LL_TEXT = r'''
 program     = { ident ":" } begin

@@ -1,15 +1,10 @@
-"""Texts 3 to 6 of a tree.
+"""Texts 3 to 6 of a tree, as the passes of the compiler write them.
 
-`spell(program, k)` gives text k as a list of (tag, value, line) in source
-order.  Text 3 wants the written tree (before or after hoisting), texts 4 to 6
-the hoisted one; text 4 is the list that reading it backward gives.
-"""
-
-import choices
-from scope import declared_in, own_idents
-from tree import (ArrayDecl, Assign, Binary, Block, CallStatement, Compound, Conditional,
-                  For, Goto, Ident, If, Index, Number, OwnPlace, Paren, ProcDecl,
-                  String, SwitchDecl, TypeDecl, Unary)
+`spell(program, k)` gives text k as a list of (tag, value, line) in the order of the source. Text 3 wants the tree as it is
+written, texts 4 to 6 the hoisted one. Text 4 is the list that reading it backward gives."""
+from model.scope import own_idents
+from model.tree import (ArrayDecl, Assign, Binary, Block, CallStatement, Compound, Conditional, For, Goto, Ident, If, Index,
+                        Number, OwnPlace, Paren, String, SwitchDecl, TypeDecl, Unary)
 
 OPEN, SHUT = 67, 68
 (PROGRAM, BLOCK, COMPOUND, TYPE, SEGMENT, SWITCH, PROCEDURE, BODY, FOR, CONTROLLED,
@@ -94,12 +89,7 @@ class Writer:
 
     def labels(self, s):
         for label in s.labels:
-            if choices.LABEL_IS_DECLARING:
-                self.out.append((DECLARING, label.sym.value, label.sym.line))
-            elif self.k <= 4:
-                self.out.append((3, label.sym.value, label.sym.line))
-            else:
-                self.description(label.entity, label.sym.line)
+            self.out.append((DECLARING, label.sym.value, label.sym.line))
             self.out.append((LABEL_COLON, 0, label.colon.line))
 
     def statements(self, list_, semis):
@@ -208,18 +198,9 @@ class Writer:
     def segment(self, s):
         self.mark(OPEN, SEGMENT, s.first)
         self.listed(s.idents, s.commas, self.declaring)
-        if choices.BOUND_MARKS == "expr":
-            for mark, e in zip(s.marks, s.bounds):
-                self.put(mark)
-                self.within(BOUND, e)
-        else:
-            for i in range(0, len(s.bounds), 2):
-                self.put(s.marks[i])
-                self.mark(OPEN, BOUND, s.bounds[i].first)
-                self.expr(s.bounds[i])
-                self.put(s.marks[i + 1])
-                self.expr(s.bounds[i + 1])
-                self.mark(SHUT, BOUND, s.bounds[i + 1].last)
+        for mark, e in zip(s.marks, s.bounds):
+            self.put(mark)
+            self.within(BOUND, e)
         self.put(s.close)
         self.mark(SHUT, SEGMENT, s.close)
 
@@ -328,7 +309,7 @@ def spell(program, k):
     return w.out
 
 
-# The tags that may stand in each text
+# The tags that may stand in each text.
 _TWO = set(range(3, 9)) | set(range(10, 56))
 TAGS = {
     1: {1, 2} | set(range(5, 9)) | set(range(10, 56)),

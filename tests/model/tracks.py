@@ -1,15 +1,17 @@
-"""Track replacement: misses, the table of transfers, the plan that looks farthest ahead."""
+"""Which references to tracks miss, for 1 to 64 places of the store, and the cheapest plan of transfers.
 
+A reference misses where its track isn't among the most recent different tracks, as many as there are places."""
 import heapq
 
-MOST_CHANGES = 1000000          # for best=yes
+# A plan is made for at most so many changes of the track.
+MOST_CHANGES = 1000000
 PLACES = 64
 
 
 class Recent:
     """Counts misses for 1 to 64 places at once.
 
-    `stack` has the 64 most recent different tracks, the newest first.  The
+    `stack` has the 64 most recent different tracks, the newest first. The
     index of a track there is the number of different tracks strictly between
     this reference and its last earlier one."""
 
@@ -60,7 +62,7 @@ def misses(tracks, places):
 
 
 def misses_by_definition(tracks, places):
-    """The same by its definition; for tests."""
+    """The same by the definition itself; for tests."""
     out = []
     for i, t in enumerate(tracks):
         earlier = [j for j in range(i) if tracks[j] == t]
@@ -70,7 +72,7 @@ def misses_by_definition(tracks, places):
 
 
 def farthest(tracks, places):
-    """The plan that looks farthest ahead: list of (track, place from 1) for each transfer."""
+    """The cheapest plan, a list of (track, place from 1) for each transfer: the track that is needed latest is given up."""
     never = len(tracks)
     following = [never] * len(tracks)
     last = {}
@@ -104,7 +106,7 @@ def farthest(tracks, places):
 
 
 def farthest_by_definition(tracks, places):
-    """The same by its definition; for tests."""
+    """The same by the definition itself; for tests."""
     holds, plan = [None] * places, []
     for i, t in enumerate(tracks):
         if t in holds:

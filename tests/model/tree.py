@@ -1,13 +1,11 @@
-"""Trees: one class for each kind of node that the other parts need.
+"""The tree of a program: one class for each kind of node that the other parts need, and a builder by recursive descent.
 
-`build(text2)` gives the written tree of a text 2 without a structure fault.
-Every node keeps the symbols that belong to it, so that texts 3 to 6 can be
-spelled from it.  A `Sym` is one symbol with its position in text 2.
-"""
+`build(text2)` gives the tree of a text 2 without a fault of structure. Every node keeps the symbols that belong to it, so that
+texts 3 to 6 can be spelled from it."""
 
 TYPES = (47, 48)                       # _integer _boolean
 RELATIONS = frozenset(range(15, 21))
-LEADING_PLUS, LEADING_MINUS = 60, 61   # signs that lead
+LEADING_PLUS, LEADING_MINUS = 60, 61
 
 
 class Sym:
@@ -47,8 +45,8 @@ class Logical(Number):
 
 
 class Ident(Expr):
-    """An identifier alone.  entity is filled by scope.  is_call: kinds says
-    whether it is a call, which text 6 shows by (76, 0)."""
+    """An identifier alone.  entity is filled by scope.  is_call: kinds.py says
+    whether it is a call without actuals."""
     __slots__ = ("sym", "entity", "is_call")
 
     def __init__(self, sym):
@@ -644,5 +642,5 @@ class Builder:
 
 
 def build(text2):
-    """The tree whose spelling the symbols are."""
+    """The tree of the program whose text 2 this is."""
     return Builder(text2).program()

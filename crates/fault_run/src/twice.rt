@@ -1,14 +1,14 @@
 // The work over devices one of which fails, and then over sound ones with the same runner.
 ghost use Rattle.std.specs.Prelude.{◌≡◌, [], false};
 ghost use Rattle.gier_text.specs.TablesModel.{tables_model};
-ghost use Rattle.gier_areas.specs.Areas.{longest};
+ghost use Rattle.gier_limits.specs.Areas.{longest};
 ghost use Rattle.gier_job.specs.Command.{IsPermitted};
 
 use crate::fails::Fails;
-use gier_areas::{LIMIT, tracks_for};
 use gier_drum::{Drum, FailingDrum, RoomFault};
 use gier_io::{FailingSink, FailingSource, Sink, Source};
 use gier_job::{Command, Status, work};
+use gier_limits::{LIMIT, tracks_for};
 use gier_runner::Runner;
 use gier_text::Tables;
 use std::io;

@@ -3,7 +3,7 @@ use Rattle.std.specs.Prelude.{◌≡◌, ◌≤◌, ◌∷◌, [], ℕ, List, Op
 use Rattle.gier_order.specs.declared.object.Object.{Object}
 use Rattle.gier_symbol.specs.declared.symbol.Symbol.{Symbol}
 use Rattle.gier_word.specs.declared.refusal.Odd.{Odd}
-use Rattle.gier_areas.specs.Areas.{longest, first_of, object_first, words_of, capacity_of}
+use Rattle.gier_limits.specs.Areas.{longest, first_of, object_first, words_of, capacity_of}
 use Rattle.gier_text.specs.declared.fronted.Fronted.{Fronted}
 use Rattle.gier_text.specs.SymbolsOnTracks.{text_on}
 use Rattle.gier_pass7.specs.Invariant.{IsShort as IsShortSeven}

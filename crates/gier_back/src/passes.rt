@@ -4,7 +4,7 @@ ghost use Rattle.std.specs.Prelude.{length, slice_index};
 ghost use Rattle.gier_word.specs.Cause.{HasRisen};
 ghost use Rattle.gier_drum.specs.View.{drum_view, PreservesDrum};
 ghost use Rattle.gier_symbol.specs.declared.symbol.Symbol.{Symbol};
-ghost use Rattle.gier_areas.specs.Areas.{longest, all_tracks, first_of, capacity_of, words_of, object_first};
+ghost use Rattle.gier_limits.specs.Areas.{longest, all_tracks, first_of, capacity_of, words_of, object_first};
 ghost use Rattle.gier_text.specs.declared.pass.PassStop.TheVariants.{Drum as PassDrum};
 ghost use Rattle.gier_text.specs.declared.text.Way.TheVariants.{Backward};
 ghost use Rattle.gier_text.specs.SymbolsOnTracks.{tracks_for as tracks_of_text};
@@ -23,10 +23,10 @@ ghost use Rattle.gier_back.specs.Compiled.{AreLengths, HoldsSeven, IsObject, IsM
 ghost use Rattle.gier_back.specs.Passes.{Passes, Writes, Stays, HasRoom};
 ghost use Rattle.gier_back.specs.Stops.{OnlyDrum, DrumOr, SpoiltAs};
 
-use crate::turned::drive_turned;
 use crate::stop::{BackStop, of_pass};
-use gier_areas::{capacity, first_track, object_track, object_words};
+use crate::turned::drive_turned;
 use gier_drum::Drum;
+use gier_limits::{capacity, first_track, object_track, object_words};
 use gier_order::Object;
 use gier_pass7::Pass7;
 use gier_pass8::Pass8;

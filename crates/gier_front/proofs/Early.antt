@@ -22,7 +22,7 @@ use Rattle.gier_pass1.specs.TapeListing.{TellsTape}
 use Rattle.gier_pass2.specs.declared.pass.Pass2.{Pass2}
 use Rattle.gier_pass2.specs.Exact.{IsExact}
 use Rattle.gier_pass3.specs.Found.{IsBare, AreFound, faults_of}
-use Rattle.gier_areas.specs.Areas.{longest}
+use Rattle.gier_limits.specs.Areas.{longest}
 use Rattle.gier_front.specs.declared.stop.FrontStop.{FrontStop}
 use Rattle.gier_front.specs.declared.stop.FrontStop.TheVariants.{Errors, Read, Drum, Spoilt}
 use Rattle.gier_front.specs.Passes.{IsToldAs, IsNothing, IfDriven}

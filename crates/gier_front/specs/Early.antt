@@ -12,7 +12,7 @@ use Rattle.gier_text.specs.declared.fault.FaultKind.{FaultKind}
 use Rattle.gier_text.specs.declared.fault.FaultKind.TheVariants.{TooLong, Structure}
 use Rattle.gier_text.specs.Faults.{as_fault, without_position}
 use Rattle.gier_tree.specs.Structure.{structure_fault}
-use Rattle.gier_areas.specs.Areas.{longest}
+use Rattle.gier_limits.specs.Areas.{longest}
 use Rattle.gier_front.specs.declared.stop.FrontStop.{FrontStop}
 use Rattle.gier_front.specs.declared.stop.FrontStop.TheVariants.{Errors, Read, Drum, Spoilt}
 

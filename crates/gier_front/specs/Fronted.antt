@@ -4,7 +4,7 @@ use Rattle.gier_text.specs.declared.fronted.Fronted.{Fronted}
 use Rattle.gier_pass1.specs.Program.{TakesAll, TakesPart}
 use Rattle.gier_front.specs.declared.stop.FrontStop.{FrontStop}
 use Rattle.gier_front.specs.declared.stop.FrontStop.TheVariants.{Errors, Read, Drum, Spoilt}
-use Rattle.gier_areas.specs.Areas.{longest, first_of}
+use Rattle.gier_limits.specs.Areas.{longest, first_of}
 use Rattle.gier_text.specs.SymbolsOnTracks.{text_on}
 use Rattle.gier_text.specs.Potential.{IsWithinPotential}
 use Rattle.gier_front.specs.Passes.{IsToldAs}

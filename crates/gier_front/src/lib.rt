@@ -7,7 +7,7 @@ mod passes;
 mod printing;
 mod stop;
 
-pub use gier_areas::{LIMIT, first_track, tracks_for};
+pub use gier_limits::{LIMIT, first_track, tracks_for};
 pub use gier_text::Fronted;
 pub use passes::front;
 pub use printing::print_errors;

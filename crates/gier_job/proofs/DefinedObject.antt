@@ -4,7 +4,7 @@ use Rattle.std.proofs.Common.{get_or, refl, sym, ap, subst, arith}
 use Rattle.std.proofs.lemmas.List.{take_more, take_all}
 use Rattle.gier_symbol.specs.declared.symbol.Symbol.{Symbol}
 use Rattle.gier_order.specs.declared.object.Object.{Object}
-use Rattle.gier_areas.specs.Areas.{longest, first_of}
+use Rattle.gier_limits.specs.Areas.{longest, first_of}
 use Rattle.gier_text.specs.SymbolsOnTracks.{text_on}
 use Rattle.gier_text.proofs.Tabulation.{get_or-tabulated}
 use Rattle.gier_pass9.specs.ObjectOfText.{object_words, HoldsWords}

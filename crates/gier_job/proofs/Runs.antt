@@ -7,7 +7,7 @@ use Rattle.gier_library.specs.Data.{limit}
 use Rattle.gier_order.specs.declared.object.Object.{Object}
 use Rattle.gier_order.specs.Misses.{misses}
 use Rattle.gier_order.specs.Flat.Run.{flat, Report}
-use Rattle.gier_areas.specs.Areas.{longest, words_of}
+use Rattle.gier_limits.specs.Areas.{longest, words_of}
 use Rattle.gier_front.specs.Fronted.{IsFronted, HasTextSix}
 use Rattle.gier_text.specs.declared.fronted.Fronted.{Fronted}
 use Rattle.gier_back.specs.Compiled.{IsObject}

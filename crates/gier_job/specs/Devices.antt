@@ -5,7 +5,7 @@ use Rattle.gier_io.specs.View.{SourceView, source_view, SinkView, sink_view}
 use Rattle.gier_drum.specs.declared.drum.Entry.{Entry}
 use Rattle.gier_drum.specs.View.{DrumView, drum_view, KeepsDrum}
 use Rattle.gier_text.specs.View.{KeepsTracks}
-use Rattle.gier_areas.specs.Areas.{first_of, object_first}
+use Rattle.gier_limits.specs.Areas.{first_of, object_first}
 use Rattle.gier_job.specs.Status.{IsStop}
 use Rattle.gier_job.specs.declared.status.Status.{Status}
 use Rattle.gier_job.specs.declared.status.Status.TheVariants.{Tape, Printer, Drum}

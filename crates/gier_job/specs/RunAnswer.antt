@@ -11,7 +11,7 @@ use Rattle.gier_library.specs.Data.{limit}
 use Rattle.gier_symbol.specs.declared.symbol.Symbol.{Symbol}
 use Rattle.gier_tree.specs.Object.{object_of}
 use Rattle.gier_text.specs.SymbolsOnTracks.{text_on}
-use Rattle.gier_areas.specs.Areas.{longest, first_of, object_first, words_of}
+use Rattle.gier_limits.specs.Areas.{longest, first_of, object_first, words_of}
 use Rattle.gier_pass7.specs.Invariant.{IsShort}
 use Rattle.gier_pass8.specs.Exact.{IsComplete}
 use Rattle.gier_pass9.specs.Objects.{IsText7}
@@ -56,8 +56,12 @@ flat_has_mortem asked (IsSpoilt place word) = false
 abbrev pub flat_tails : Command → (most : ℕ) → Object → Report → List ℕ
 flat_tails c most object report =
     flat_end_tail report.ending
-    ++ count_tails c (record { steps = report.steps; transfers
-        = length (misses (tracks_of object report.refs) c.settings.places); words = report.words })
+    ++ count_tails c (record {
+      steps = report.steps;
+      transfers
+          = length (misses (tracks_of object report.refs) c.settings.places);
+      words = report.words;
+    })
     most (tracks_of object report.refs) (notes_of report.refs)
 
 -- What was printed is what the flat run prints, and then its tails; the drum's journal ends with a read for each miss, and

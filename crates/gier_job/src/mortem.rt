@@ -2,7 +2,7 @@
 ghost use Rattle.std.specs.Prelude.{◌≡◌, ◌≤◌, ◌<◌, ◌+◌, ℕ, [], length, map, slice_index, OnOk, IfErr, IsErrOf};
 ghost use Rattle.gier_word.specs.Cause.{HasCause, HasRisen};
 ghost use Rattle.gier_text.specs.View.{KeepsTracks};
-ghost use Rattle.gier_areas.specs.Areas.{longest, all_tracks, capacity_of, first_of, object_first};
+ghost use Rattle.gier_limits.specs.Areas.{longest, all_tracks, capacity_of, first_of, object_first};
 ghost use Rattle.gier_frames.specs.Stop.{activations};
 ghost use Rattle.gier_io.specs.Device.{Puts};
 ghost use Rattle.gier_runner.specs.Live.{shape_of, live_of};

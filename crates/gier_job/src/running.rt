@@ -15,7 +15,7 @@ ghost use Rattle.gier_exec.specs.Rows.{code_in};
 ghost use Rattle.gier_back.specs.Compiled.{IsObject};
 ghost use Rattle.gier_runner.specs.State.{report_of};
 ghost use Rattle.gier_exec.specs.Reading.{tracks_for};
-ghost use Rattle.gier_areas.specs.Areas.{longest, all_tracks, object_tracks, capacity_of, first_of, object_first};
+ghost use Rattle.gier_limits.specs.Areas.{longest, all_tracks, object_tracks, capacity_of, first_of, object_first};
 ghost use Rattle.gier_front.specs.Fronted.{IsFronted, HasTextSix};
 ghost use Rattle.gier_job.specs.Command.{IsWithin};
 ghost use Rattle.gier_job.specs.Devices.{devices, NamesFailed, StopsBehind};
@@ -147,7 +147,7 @@ fn put_stopped<K: Sink>(
     ensures frames { runner.new.frames ≡ runner.old.frames }
     ensures put { (tracks notes : List ℕ) → Counts runner.old.recent tracks → HasNoted runner.old.trace notes →
         OnOk result (Puts (K.holds out.old) (end_tail ending ++ count_tails command.now
-            (report_of runner.old) runner.old.trace.limit tracks notes) (K.holds out.new)) }
+        (report_of runner.old) runner.old.trace.limit tracks notes) (K.holds out.new)) }
     ensures cause { HasCause (K.faults out.old) (K.faults out.new) result }
 {
     match put_ending(ending, out) {
@@ -179,7 +179,7 @@ fn put_counts<K: Sink>(command: &Command, runner: &mut Runner, out: &mut K) -> R
     ensures frames { runner.new.frames ≡ runner.old.frames }
     ensures put { (tracks notes : List ℕ) → Counts runner.old.recent tracks → HasNoted runner.old.trace notes →
         OnOk result (Puts (K.holds out.old) (count_tails command.now
-            (report_of runner.old) runner.old.trace.limit tracks notes) (K.holds out.new)) }
+        (report_of runner.old) runner.old.trace.limit tracks notes) (K.holds out.new)) }
     ensures cause { HasCause (K.faults out.old) (K.faults out.new) result }
 {
     match put_taken(command, runner, out) {
@@ -253,7 +253,7 @@ fn put_cheapest<K: Sink>(command: &Command, runner: &mut Runner, out: &mut K) ->
     ensures frames { runner.new.frames ≡ runner.old.frames }
     ensures put { (notes : List ℕ) → HasNoted runner.old.trace notes →
         OnOk result (Puts (K.holds out.old) (best_plan_tail command.now.best runner.old.trace.limit notes
-            command.now.settings.places) (K.holds out.new)) }
+        command.now.settings.places) (K.holds out.new)) }
     ensures cause { HasCause (K.faults out.old) (K.faults out.new) result }
 {
     if !command.best {

@@ -5,7 +5,7 @@ ghost use Rattle.gier_word.specs.Cause.{HasRisen};
 ghost use Rattle.gier_drum.specs.View.{drum_view, KeepsDrum, StaysTold};
 ghost use Rattle.gier_text.specs.TablesModel.{tables_model};
 ghost use Rattle.gier_front.specs.declared.stop.FrontStop.TheVariants.{Errors as HasErrors, Read, Drum as DrumStop};
-ghost use Rattle.gier_areas.specs.Areas.{longest, all_tracks, object_tracks};
+ghost use Rattle.gier_limits.specs.Areas.{longest, all_tracks, object_tracks};
 ghost use Rattle.gier_front.specs.Fronted.{IsFronted, HasTextSix};
 ghost use Rattle.gier_front.specs.Stops.{NotSpoilt};
 ghost use Rattle.gier_job.specs.Answer.{Answers};

@@ -8,7 +8,7 @@ ghost use Rattle.gier_pass1.specs.Scan.{depth_of, start_state, here_symbol, at_e
 ghost use Rattle.gier_pass1.specs.Scanning.{IsScanning, HasLetters, ReadsLetters, IfRead, IfBehind, FeedsAny, KeepsLetters};
 ghost use Rattle.gier_pass1.specs.Scanning.{EndsWord, EndsStep, TakesByte, ended_step, begun_step};
 
-use crate::state::{Token, State, Step, start_state};
+use crate::state::{State, Step, Token, start_state};
 use crate::steps::{at_end, goes, sign_step, taken_step, word_step};
 use gier_strop::{Fed, Spelling, WordReader};
 use gier_symbol::Tag;

@@ -11,6 +11,7 @@ ghost use Rattle.gier_pass2.specs.Spelled.{IsSign};
 ghost use Rattle.gier_pass2.specs.Standard.{Spells, standard_bytes};
 ghost use Rattle.gier_pass2.specs.Tree.{Tree, IsTree, IsChild, Knows, Names, IsNumberOf, child_added, nodes_of, sign_at, is_same};
 
+use gier_limits::STANDARD_NAMES;
 use gier_symbol::{Symbol, Tag};
 use gier_text::Tables;
 
@@ -32,9 +33,6 @@ const CHILD: u8 = 3;
 const NUMBER: u8 = 4;
 
 const WIDTH: u8 = 5;
-
-// Room for the nodes of the standard identifiers.
-const STANDARD_ROOM: u32 = 64;
 
 // The standard identifiers, each with a space behind it.
 const STANDARD: &[u8] = b"outinteger outtext outcr outchar ininteger inchar abs sign ";
@@ -190,7 +188,7 @@ fn plant(tables: &mut Tables, bytes: u32)
     ensures faults { (tables_model tables.new).faults ≡ (tables_model tables.old).faults }
     ensures spells { Spells (tables_model tables.new) 0 0 standard_bytes }
 {
-    tables.list(WIDTH, bytes + STANDARD_ROOM);
+    tables.list(WIDTH, bytes + STANDARD_NAMES);
     tables.push(NODES, &[0, 0, 0, 0, 0]);
 }
 

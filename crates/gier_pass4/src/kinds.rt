@@ -84,7 +84,12 @@ pub(crate) fn with_word(place: ParseState, behind: Kind, word: Tag) -> Kind
 {
     match place {
         ParseState::Heading => specified(behind, word),
-        ParseState::TypeDeclaration => typed(Kind::IntegerVariable, Kind::BooleanVariable, behind, word),
+        ParseState::TypeDeclaration => typed(
+            Kind::IntegerVariable,
+            Kind::BooleanVariable,
+            behind,
+            word,
+        ),
         _ => typed(Kind::IntegerArray, Kind::BooleanArray, behind, word),
     }
 }

@@ -13,6 +13,7 @@ ghost use Rattle.gier_pass4.specs.Invariant.{StateInvariant, IsName, PreservesSt
 
 use crate::marks::ParseState;
 use crate::pass::Pass4;
+use gier_limits::FIRST_OWN_NAME;
 use gier_symbol::{Symbol, Tag};
 use gier_text::Tables;
 use gier_tree::Construct;
@@ -36,9 +37,6 @@ pub(crate) enum Owned {
     Unknown,
     Yes,
 }
-
-// The fresh identifier of the first own quantity.
-const FRESH: u64 = 1 << 32;
 
 impl Pass4 {
     /// Puts a symbol where those of the declaration, or of the text, go.
@@ -70,7 +68,7 @@ impl Pass4 {
         requires line { s.line < 2 ^ 24 }
         ensures { PreservesState 1 self.old (tables_model tables.old) self.new (tables_model tables.new) }
     {
-        self.fresh = FRESH + cmp::min(s.value, u64::from(self.lists.bytes));
+        self.fresh = FIRST_OWN_NAME + cmp::min(s.value, u64::from(self.lists.bytes));
         if self.owned == Owned::Unknown {
             let semicolon = self.lists.plain(Tag::Semicolon, 0, s.line);
             self.lists.put_own(tables, semicolon);

@@ -12,8 +12,8 @@ ghost use Rattle.gier_pass5.specs.Invariant.{StateInvariant, TakingInvariant};
 ghost use Rattle.gier_pass5.specs.Steps.{Steps, Takes, entry_and_description};
 ghost use Rattle.gier_pass5.specs.Uses.{symbols_of};
 
-use crate::entries::{self, Field, SymbolEntry};
 use crate::binding::Binding;
+use crate::entries::{self, Field, SymbolEntry};
 use crate::outbox::emit;
 use crate::pass::{Pass5, is, potential_of};
 use crate::uses::{meant_by, nothing, put_use};

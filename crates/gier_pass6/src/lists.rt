@@ -5,8 +5,8 @@ ghost use Rattle.gier_text.specs.TablesModel.{tables_model};
 
 use crate::actuals::{Fit, is_free, value_fits};
 use crate::kind::{Kind, is_procedure};
-use crate::open::{StackEntry, Location, EntryKind, short};
-use crate::places::{Context, PendingName, Name};
+use crate::open::{EntryKind, Location, StackEntry, short};
+use crate::places::{Context, Name, PendingName};
 use crate::state::State;
 use crate::types::ValueType;
 use crate::uses::{

@@ -4,7 +4,7 @@ ghost use Rattle.gier_text.specs.TablesModel.{tables_model};
 
 use crate::lists::{RECORD, forget};
 use crate::names::Name;
-use crate::open::{NOTHING, StackEntry, EntryKind, line_of};
+use crate::open::{EntryKind, NOTHING, StackEntry, line_of};
 use crate::state::State;
 use gier_order::Operation;
 use gier_text::Tables;

@@ -10,7 +10,8 @@ ghost use Rattle.gier_pass8.specs.Lists.{HasLists, IsWritable, Keeps};
 ghost use Rattle.gier_pass8.specs.Knowledge.{Knows, with_known, with_label_used, known_word, known_behind, needs_of, with_need, without_need, needs_behind};
 ghost use Rattle.gier_pass8.specs.declared.words.Label.TheVariants.{Used, At};
 
-use crate::words::{ADDRESSES, Label, filled, number_in, sum};
+use crate::words::{Label, filled, number_in, sum};
+use gier_limits::ADDRESSES;
 use gier_symbol::{Symbol, Tag, stands_in};
 use gier_text::Tables;
 

@@ -5,6 +5,7 @@ ghost use Rattle.gier_text.specs.TablesModel.{tables_model, fresh};
 use crate::input::{Symbols, text_of};
 use crate::object::show_object;
 use gier_io::MemSource;
+use gier_limits::LIMIT;
 use gier_pass1::Pass1;
 use gier_pass2::Pass2;
 use gier_pass3::Pass3;
@@ -17,9 +18,6 @@ use gier_symbol::Symbol;
 use gier_text::{ListText, Pass, PassStop, Tables, Text, Way, drive};
 use std::alloc::Global;
 use std::io;
-
-// The longest program.
-const LIMIT: u32 = 1 << 19;
 
 // The last pass that writes a text, and the one that writes the object.
 const LAST_PASS: u8 = 8;

@@ -1,22 +1,14 @@
-"""A plain interpreter of trees with environments, used only
-to test coder and flat: same bytes, ending, steps, greatest live words, data.
+"""A plain interpreter of trees with environments: the meaning of a program without any object, to compare the coder and the flat run with.
 
-It shares need.py with the coder, so it says nothing of `need` itself."""
-
-import os
-import sys
-
-HERE = os.path.dirname(os.path.abspath(__file__))
-sys.path.insert(0, os.path.dirname(HERE))
-sys.path.insert(0, HERE)
-
-from flat import Alarm, Flat, Steps, divide, in_range, power     # noqa: E402
-from need import block_header, block_need, need, statement_need  # noqa: E402
-from scope import declared_in                                    # noqa: E402
-import coder                                                     # noqa: E402
-from tree import (ArrayDecl, Assign, Binary, Block, CallStatement, Compound,   # noqa: E402
-                  Conditional, For, Goto, Ident, If, Index, Logical, Number, Paren,
-                  ProcDecl, String, SwitchDecl, Unary)
+It gives the same bytes, ending, steps, greatest words and data taken. It takes the words that an activation needs from room.py, as the
+coder does, so it says nothing of those."""
+from model import coder
+from model.arithmetic import Alarm, Steps, divide, in_range, power
+from model.data import Data
+from model.room import block_header, block_need, need, statement_need
+from model.scope import declared_in
+from model.tree import (ArrayDecl, Assign, Binary, Block, CallStatement, Compound, Conditional, For, Goto, Ident, If, Index, Logical,
+                        Number, Paren, String, Unary)
 
 UNDEFINED = object()
 
@@ -46,7 +38,7 @@ class Meaning:
     def __init__(self, program, data, steps, stack):
         self.left, self.limit, self.W = steps, steps, stack
         self.live = self.greatest = 0
-        self.io = Flat([], data)
+        self.io = Data(data)
         self.out = bytearray()
         self.alarm = None
         try:
@@ -261,7 +253,7 @@ class Meaning:
                 raise Alarm("character")
             self.out.append(v)
         elif k == 35:
-            return self.io.in_integer()
+            return self.io.integer()
         elif k == 36:
             b = self.io.next_byte()
             return -1 if b is None else b

@@ -1,5 +1,5 @@
 use Rattle.std.proofs.Common.{◌∙◌, arith, reverse}
-use Rattle.gier_areas.specs.Areas.{words_of}
+use Rattle.gier_limits.specs.Areas.{words_of}
 use Rattle.gier_pass9.specs.PassOutput.{IsWrong}
 use Rattle.gier_text.specs.TablesModel.{tables_model}
 use Rattle.gier_drum.specs.View.{drum_view}

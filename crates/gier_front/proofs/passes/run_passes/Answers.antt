@@ -3,7 +3,7 @@ use Rattle.std.specs.Prelude.{⊤}
 use Rattle.gier_symbol.specs.Listing.{FaultAt}
 use Rattle.gier_text.specs.declared.fronted.Fronted.{Fronted}
 use Rattle.gier_symbol.specs.declared.symbol.Symbol.{Symbol}
-use Rattle.gier_areas.specs.Areas.{first_of}
+use Rattle.gier_limits.specs.Areas.{first_of}
 use Rattle.gier_text.specs.Potential.{IsWithinPotential}
 use Rattle.gier_text.specs.TablesModel.{tables_model}
 use Rattle.gier_text.specs.declared.fault.FaultKind.{FaultKind}

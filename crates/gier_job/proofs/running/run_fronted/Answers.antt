@@ -1,6 +1,6 @@
 use Rattle.std.proofs.Common.{◌≡◌, ◌≤◌, ◌∙◌, arith, ap, sym, subst, take}
 use Rattle.gier_library.specs.Data.{limit}
-use Rattle.gier_areas.specs.Areas.{first_of, object_first}
+use Rattle.gier_limits.specs.Areas.{first_of, object_first}
 use Rattle.gier_text.specs.SymbolsOnTracks.{text_on}
 use Rattle.gier_text.specs.Potential.{IsWithinPotential}
 use Rattle.gier_exec.specs.Rows.{code_in}

@@ -34,9 +34,9 @@ returns-in-Ok-clause-answers g c =
     c.if-command.false c.run_fronted.ensures.of_run
     (λ bytes left told. answers_none (text_for command.sample bytes) c.run_fronted.result (held c.args.out.now) (held c.run_fronted.new.out) (c.in-Ok.ensures.early bytes left told) c.run_fronted.ensures.of_run)
     (λ tracks all off told left is.
-        let told_first = sym c.bring_to_text6-found.ensures.keeps.same_tracks ∙ sym c.run_fronted.ensures.keeps.same_tracks ∙ ap is_some told in
-        has_run tracks command c.args.runner.now.trace.limit c.in-Ok.fronted all
-        (tape c.args.tape.now) (tape c.bring_to_text6-found.new.tape) (g.D.Drum.tracks c.bring_to_text6-found.new.drum)
-        c.run_fronted.result (held c.args.out.now) (held c.run_fronted.new.out) (g.D.Drum.journal c.run_fronted.new.drum)
-        left c.in-Ok.ensures.fronted c.in-Ok.ensures.takes (c.in-Ok.ensures.counted all left) (c.in-Ok.ensures.text6 told_first)
-        (λ bytes given. c.run_fronted.ensures.runs tracks bytes told given is))
+    let told_first = sym c.bring_to_text6-found.ensures.keeps.same_tracks ∙ sym c.run_fronted.ensures.keeps.same_tracks ∙ ap is_some told in
+    has_run tracks command c.args.runner.now.trace.limit c.in-Ok.fronted all
+    (tape c.args.tape.now) (tape c.bring_to_text6-found.new.tape) (g.D.Drum.tracks c.bring_to_text6-found.new.drum)
+    c.run_fronted.result (held c.args.out.now) (held c.run_fronted.new.out) (g.D.Drum.journal c.run_fronted.new.drum)
+    left c.in-Ok.ensures.fronted c.in-Ok.ensures.takes (c.in-Ok.ensures.counted all left) (c.in-Ok.ensures.text6 told_first)
+    (λ bytes given. c.run_fronted.ensures.runs tracks bytes told given is))

@@ -1,0 +1,1 @@
+"""Tests of the model itself. The script tests/model/check runs them."""
