@@ -29,7 +29,8 @@ pub record IsTextTwo (bytes : ℕ) (list : List Symbol) : Type 0 where
 
 -- the pass over a program of so many bytes went to its end, and these symbols stand in its output
 pub record Drives {P T : Type 0} (bytes_of : P → ℕ)
-    (relates : P → T → List Symbol → List Symbol → Type 0) (bytes : ℕ) (read : List Symbol) (tables : T) (held : Option (List Symbol)) : Type 0 where
+    (relates : P → T → List Symbol → List Symbol → Type 0) (bytes : ℕ) (read : List Symbol) (tables : T) (held : Option
+    (List Symbol)) : Type 0 where
   pub pass : P
   pub written : List Symbol
   pub same : bytes_of pass ≡ bytes
