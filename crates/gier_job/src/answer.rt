@@ -60,6 +60,7 @@ pub fn gier<S: Source, K: Sink, D: Drum>(
 }
 
 // Takes the drum's room, the tables and the runner, in this order, and does the work.
+#[tactic(auto, using(crate::proofs::Answering::answers_memory, crate::proofs::Answering::answers_drum))]
 fn open_and_work<S: Source, K: Sink, D: Drum>(
     alloc: Global,
     command: &Command,
