@@ -1,14 +1,14 @@
 // The work over devices one of which fails, and then over sound ones with the same runner.
 ghost use Rattle.std.specs.Prelude.{◌≡◌, [], false};
 ghost use Rattle.gier_text.specs.TablesModel.{tables_model};
-ghost use Rattle.gier_areas.specs.Areas.{longest};
-ghost use Rattle.gier_job.specs.Command.{IsFew, IsWithin};
+ghost use Rattle.gier_limits.specs.Areas.{longest};
+ghost use Rattle.gier_job.specs.Command.{IsPermitted};
 
 use crate::fails::Fails;
-use gier_areas::{LIMIT, tracks_for};
 use gier_drum::{Drum, FailingDrum, RoomFault};
 use gier_io::{FailingSink, FailingSource, Sink, Source};
 use gier_job::{Command, Status, work};
+use gier_limits::{LIMIT, tracks_for};
 use gier_runner::Runner;
 use gier_text::Tables;
 use std::io;
@@ -19,8 +19,7 @@ const PRINTED: usize = 1 << 22;
 
 /// Does the work with this call failing, and then without, and prints what came of both.
 pub fn show_both(rt: &HostRuntime, command: &Command, tape: &[u8], fails: Fails) -> io::Result<()>
-    requires few { IsFew command.now.sample }
-    requires within { IsWithin command.now.settings }
+    requires permitted { IsPermitted command.now }
     requires plain { command.now.best ≡ false }
 {
     let Ok(mut runner) = Runner::open(rt.alloc(), command.settings) else {
@@ -37,8 +36,7 @@ fn show(
     fails: Fails,
     runner: &mut Runner,
 ) -> io::Result<()>
-    requires few { IsFew command.now.sample }
-    requires within { IsWithin command.now.settings }
+    requires permitted { IsPermitted command.now }
     requires plain { command.now.best ≡ false }
     requires settings { runner.old.settings ≡ command.now.settings }
     ensures settings { runner.new.settings ≡ runner.old.settings }
@@ -74,8 +72,7 @@ fn obey<S: Source, K: Sink, D: Drum>(
     tables: &mut Tables,
     runner: &mut Runner,
 ) -> Status
-    requires few { IsFew command.now.sample }
-    requires within { IsWithin command.now.settings }
+    requires permitted { IsPermitted command.now }
     requires plain { command.now.best ≡ false }
     requires limit { (tables_model tables.old).limit ≡ longest }
     requires no_faults { (tables_model tables.old).faults ≡ [] }

@@ -1,10 +1,10 @@
-// The program `gier`: the words of its command line, the tape on standard input and the printer on standard output, over a
-// drum in memory. What it does with them is the top call's.
+// The program `gier`: the words of its command line, the tape in a file or on standard input and the printer on standard output,
+// over a drum in memory. What it does with them is the top call's.
 #![tactic(auto)]
 
 use gier_drum::MemDrum;
 use gier_job::Status;
-use gier_shell::{About, end, read_arguments, serve, tell};
+use gier_shell::{About, end, read_command_line, serve, tell};
 use std::process::ExitCode;
 
 // The drum keeps no journal.
@@ -20,11 +20,13 @@ const ABOUT: About = About {
 };
 
 const HELP: &str = "\
-usage: gier run [WORD..] < TAPE        compiles and runs an ALGOL 60 program
-       gier check [sample=K] < TAPE    only looks for its errors
+usage: gier run [WORD..] [FILE]        compiles and runs an ALGOL 60 program
+       gier check [sample=K] [FILE]    only looks for its errors
        gier --help | --version
 
-The program text is all bytes before the first `#`, the data all behind it.
+FILE has a `/` or a `.` in it, as ./queens. Without one the tape is standard
+input. The program text is all bytes before the first `#`, the data all behind
+it; where FILE has no `#`, the data are standard input.
 
 words behind `run`, in any order and each at most once:
   places=P     track places, 1 to 64 (8)
@@ -46,11 +48,11 @@ docs/LANGUAGE.md is the manual, docs/MACHINE.md tells what the words print.
 ";
 
 fn main(rt: HostRuntime) -> ExitCode {
-    let status = match read_arguments(&rt, rt.alloc(), FIRST_WORD) {
-        Ok(words) => match tell(&rt, &ABOUT, words.as_slice()) {
+    let status = match read_command_line(&rt, rt.alloc(), FIRST_WORD) {
+        Ok(line) => match tell(&rt, &ABOUT, line.words.as_slice()) {
             Some(status) => status,
             None => match MemDrum::open(rt.alloc(), NO_JOURNAL) {
-                Ok(mut drum) => serve(&rt, &ABOUT, words.as_slice(), &mut drum),
+                Ok(mut drum) => serve(&rt, &ABOUT, &line, &mut drum),
                 Err(_) => Status::Memory,
             },
         },

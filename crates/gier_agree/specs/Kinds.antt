@@ -1,7 +1,9 @@
 -- The kinds at the call of a formal procedure, and which actual fits which formal.
 use Rattle.std.specs.Prelude.{◌≡◌, ℕ}
 use Rattle.gier_agree.specs.declared.kind.Kind.{Kind}
-use Rattle.gier_agree.specs.declared.kind.Kind.TheVariants.{IntegerByValue, BooleanByValue, Integer, Boolean, Label, IntegerArray, BooleanArray, Switch, String, Procedure, IntegerProcedure, BooleanProcedure}
+use Rattle.gier_agree.specs.declared.kind.Kind.TheVariants.{IntegerByValue, BooleanByValue, Integer, Boolean, Label}
+use Rattle.gier_agree.specs.declared.kind.Kind.TheVariants.{IntegerArray, BooleanArray, Switch, String, Procedure}
+use Rattle.gier_agree.specs.declared.kind.Kind.TheVariants.{IntegerProcedure, BooleanProcedure}
 
 -- the number of a kind in a packed word
 abbrev pub number_of : Kind → ℕ

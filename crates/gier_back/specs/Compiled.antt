@@ -3,7 +3,7 @@ use Rattle.std.specs.Prelude.{◌≡◌, ◌≤◌, ◌∷◌, [], ℕ, List, Op
 use Rattle.gier_order.specs.declared.object.Object.{Object}
 use Rattle.gier_symbol.specs.declared.symbol.Symbol.{Symbol}
 use Rattle.gier_word.specs.declared.refusal.Odd.{Odd}
-use Rattle.gier_areas.specs.Areas.{longest, first_of, object_first, words_of, capacity_of}
+use Rattle.gier_limits.specs.Areas.{longest, first_of, object_first, words_of, capacity_of}
 use Rattle.gier_text.specs.declared.fronted.Fronted.{Fronted}
 use Rattle.gier_text.specs.SymbolsOnTracks.{text_on}
 use Rattle.gier_pass7.specs.Invariant.{IsShort as IsShortSeven}
@@ -24,7 +24,8 @@ pub record HoldsSeven (tracks : Option (List (List ℕ))) (first bytes count : �
 pub record AreLengths (fronted : Fronted) (lengths : List ℕ) : Type 0 where
   pub seven : ℕ
   pub eight : ℕ
-  pub all : lengths ≡ slice_index fronted.lengths 0 ∷ slice_index fronted.lengths 1 ∷ slice_index fronted.lengths 2 ∷ slice_index fronted.lengths 3 ∷ slice_index fronted.lengths 4 ∷ fronted.symbols ∷ seven ∷ eight ∷ []
+  pub all : lengths ≡ slice_index fronted.lengths 0 ∷ slice_index fronted.lengths 1 ∷ slice_index fronted.lengths 2
+      ∷ slice_index fronted.lengths 3 ∷ slice_index fronted.lengths 4 ∷ fronted.symbols ∷ seven ∷ eight ∷ []
   pub few_seven : seven ≤ capacity_of fronted.bytes
   pub few_eight : eight ≤ capacity_of fronted.bytes
 
@@ -36,15 +37,17 @@ pub record IsObject (fronted : Fronted) (object : Object) : Type 0 where
   pub few : object.words ≤ words_of fronted.bytes
   pub lengths : AreLengths fronted object.lengths
 
--- The object's words are those that a text 8 makes, which was no longer than a text may be, and they stand on the object's tracks. The
--- text 7 behind it still lies there; where all of it is known by its end, the words are the object that is defined from it.
+-- The object's words are those that a text 8 makes, which was no longer than a text may be, and they stand on the object's
+-- tracks. The text 7 behind it still lies there; where all of it is known by its end, the words are the object that is defined
+-- from it.
 pub record IsMade (tracks : Option (List (List ℕ))) (bytes : ℕ) (object : Object) : Type 0 where
   pub list : List Symbol
   pub short : IsShort 8 bytes list
   pub count : length (object_words longest (reverse list)) ≡ object.words
   pub holds : HoldsWords tracks object.first_track (object_words longest (reverse list))
   pub seven : HoldsSeven tracks (first_of 7) bytes (slice_index object.lengths 6)
-  pub defined : IsComplete bytes seven.list → IsText7 longest seven.list → object_words longest (reverse list) ≡ object_of seven.list
+  pub defined : IsComplete bytes seven.list → IsText7 longest seven.list
+      → object_words longest (reverse list) ≡ object_of seven.list
 
 -- a text 8 of letters, which was no longer than a text may be, had no word or too many
 pub record IsNoObject (bytes : ℕ) (odd : Odd) : Type 0 where

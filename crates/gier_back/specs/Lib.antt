@@ -1,3 +1,3 @@
 pub mod Stops
-pub mod Stages
+pub mod Passes
 pub mod Compiled

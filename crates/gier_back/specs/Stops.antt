@@ -2,7 +2,8 @@
 use Rattle.std.specs.Prelude.{Result, Ok, Err}
 use Rattle.gier_word.specs.declared.refusal.Odd.{Odd}
 use Rattle.gier_text.specs.declared.pass.PassStop.{PassStop}
-use Rattle.gier_text.specs.declared.pass.PassStop.TheVariants.{Drum as PassDrum, Memory as PassMemory, Full as PassFull, Spoilt as PassSpoilt}
+use Rattle.gier_text.specs.declared.pass.PassStop.TheVariants.{Drum as PassDrum, Memory as PassMemory, Full as PassFull}
+use Rattle.gier_text.specs.declared.pass.PassStop.TheVariants.{Spoilt as PassSpoilt}
 use Rattle.gier_back.specs.declared.stop.BackStop.{BackStop}
 use Rattle.gier_back.specs.declared.stop.BackStop.TheVariants.{Drum, Spoilt}
 

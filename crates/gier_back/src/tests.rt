@@ -2,8 +2,8 @@
 ghost use Rattle.std.specs.Prelude.{◌≡◌, ◌≤◌, OnOk};
 
 use crate::{BackStop, Object, back};
-use gier_areas::{LIMIT, object_track, tracks_for};
 use gier_drum::{Drum, FailingDrum, ForgetfulDrum, MemDrum};
+use gier_limits::{LIMIT, object_track, tracks_for};
 use gier_symbol::{Symbol, Tag};
 use gier_text::{DrumText, Fronted, Tables, Text, TextStop, Way};
 use std::test::Fail;

@@ -10,7 +10,8 @@ last_from last (track ∷ refs) = last_from (Some track) refs
 -- the tracks of the changes among the references, with the last one before them
 abbrev pub changes_from : Option ℕ → List ℕ → List ℕ
 changes_from last [] = []
-changes_from last (track ∷ refs) = cond (is_track track last) (changes_from (Some track) refs) (track ∷ changes_from (Some track) refs)
+changes_from last (track ∷ refs) = cond (is_track track last) (changes_from (Some track) refs)
+    (track ∷ changes_from (Some track) refs)
 
 abbrev pub changes_of : List ℕ → List ℕ
 changes_of refs = changes_from None refs

@@ -2,7 +2,8 @@
 -- What the places hold is a list: for each place, from the first, a track or nothing.
 -- A plan is the list of its reads in order, each a track and the place that it is read into, counted from 1.
 -- Its cost is their number.
-use Rattle.std.specs.Prelude.{◌≡◌, ℕ, suc, ◌<◌, Bool, true, false, cond, nat_eq, nat_le, Option, Some, None, List, [], ◌∷◌, length, map, replicate, slice_set}
+use Rattle.std.specs.Prelude.{◌≡◌, ℕ, suc, ◌<◌, Bool, true, false, cond, nat_eq, nat_le, Option, Some, None, List, [], ◌∷◌}
+use Rattle.std.specs.Prelude.{length, map, replicate, slice_set}
 use Rattle.std.specs.Bool.{MatchBool}
 use Rattle.std.specs.List.{list_all}
 
@@ -21,7 +22,8 @@ IsPlan [] held moves = moves ≡ []
 IsPlan (track ∷ refs) held moves =
     MatchBool (holds track held)
     (IsPlan refs held moves)
-    ((place : ℕ) × (later : List (ℕ × ℕ)) × (place < length held) × (moves ≡ (track, suc place) ∷ later) × IsPlan refs (slice_set held place (Some track)) later)
+    ((place : ℕ) × (later : List (ℕ × ℕ)) × (place < length held) × (moves ≡ (track, suc place) ∷ later)
+    × IsPlan refs (slice_set held place (Some track)) later)
 
 -- a plan for places that begin empty
 abbrev pub IsPlanFor : List ℕ → ℕ → List (ℕ × ℕ) → Type 0

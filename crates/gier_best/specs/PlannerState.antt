@@ -1,5 +1,6 @@
 -- How the planner keeps what the places hold, and when each of it is wanted.
-use Rattle.std.specs.Prelude.{◌≡◌, ℕ, suc, ◌+◌, ◌-◌, ◌<◌, cond, nat_lt, Option, Some, None, List, [], ◌∷◌, ◌++◌, length, map, drop, replicate, slice_index, slice_set}
+use Rattle.std.specs.Prelude.{◌≡◌, ℕ, suc, ◌+◌, ◌-◌, ◌<◌, cond, nat_lt, Option, Some, None, List, [], ◌∷◌, ◌++◌, length, map}
+use Rattle.std.specs.Prelude.{drop, replicate, slice_index, slice_set}
 use Rattle.gier_best.specs.Plan.{next_use, farthest_from}
 
 -- the places from the first that hold these tracks, and empty ones behind them
@@ -9,7 +10,8 @@ places_holding places tracks = map Some tracks ++ replicate (places - length tra
 -- for each change, the position of the next one of its track, or the number of changes
 pub record AreNextUses (changes next : List ℕ) : Type 0 where
   pub even : length next ≡ length changes
-  pub each : (at : ℕ) → at < length changes → slice_index next at ≡ suc at + next_use (drop (suc at) changes) (slice_index changes at)
+  pub each : (at : ℕ) → at < length changes
+      → slice_index next at ≡ suc at + next_use (drop (suc at) changes) (slice_index changes at)
 
 -- for each track 1 + the place that holds it, or 0
 pub record IsIndex (index tracks : List ℕ) : Type 0 where

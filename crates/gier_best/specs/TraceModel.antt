@@ -1,5 +1,6 @@
 -- What a trace keeps of the references that were noted, and the plan that it found last.
-use Rattle.std.specs.Prelude.{◌≡◌, ℕ, ◌<◌, Bool, true, false, cond, nat_lt, Option, Some, None, List, [], ◌∷◌, ◌++◌, length, take, All}
+use Rattle.std.specs.Prelude.{◌≡◌, ℕ, ◌<◌, Bool, true, false, cond, nat_lt, Option, Some, None, List, [], ◌∷◌, ◌++◌, length}
+use Rattle.std.specs.Prelude.{take, All}
 use Rattle.gier_best.specs.Changes.{last_from, changes_of}
 
 pub record Traced : Type 0 where

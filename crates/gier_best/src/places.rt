@@ -1,5 +1,6 @@
 // What the places hold while a plan is made, and which place a track is read into. The plan itself is made elsewhere.
-ghost use Rattle.std.specs.Prelude.{◌≡◌, ◌≢◌, ℕ, suc, ◌+◌, ◌<◌, ◌≤◌, ◌^◌, [], ◌∷◌, ◌++◌, length, slice_index, slice_set, if◌then◌else◌, nat_lt, IfOk, IfSome, IsNone, vec_capacity};
+ghost use Rattle.std.specs.Prelude.{◌≡◌, ◌≢◌, ℕ, suc, ◌+◌, ◌<◌, ◌≤◌, ◌^◌, [], ◌∷◌, ◌++◌, length, slice_index, slice_set};
+ghost use Rattle.std.specs.Prelude.{if◌then◌else◌, nat_lt, IfOk, IfSome, IsNone, vec_capacity};
 ghost use Rattle.gier_best.specs.PlannerState.{IsIndex, put};
 ghost use Rattle.gier_best.specs.Plan.{lowest_greatest};
 
@@ -66,7 +67,8 @@ impl Places {
     pub(crate) fn choose(&self, count: u8) -> usize
         requires { 1 ≤ count }
         ensures even { length self.now.due.items ≡ length self.now.tracks.items }
-        ensures place { result ≡ (if nat_lt (length self.now.tracks.items) count then length self.now.tracks.items else lowest_greatest self.now.due.items) }
+        ensures place { result ≡ (if nat_lt (length self.now.tracks.items) count then length self.now.tracks.items
+            else lowest_greatest self.now.due.items) }
     {
         if self.tracks.len() < count as usize {
             return self.tracks.len();

@@ -37,7 +37,9 @@ fn refer(track: u32, due: u32, count: u8, places: &mut Places, plan: &mut Vec<(u
     requires few { length places.old.tracks.items ≤ count }
     requires track { track < length places.old.index.items }
     requires room { length plan.old.items < vec_capacity plan.old }
-    ensures planned { (rest : List ℕ) (at : ℕ) (whole : List (ℕ × ℕ)) → due ≡ suc at + next_use rest track → IsPlanned count at (track ∷ rest) places.old.tracks.items places.old.due.items plan.old.items whole → IsPlanned count (suc at) rest places.new.tracks.items places.new.due.items plan.new.items whole }
+    ensures planned { (rest : List ℕ) (at : ℕ) (whole : List (ℕ × ℕ)) → due ≡ suc at + next_use rest track
+        → IsPlanned count at (track ∷ rest) places.old.tracks.items places.old.due.items plan.old.items whole
+        → IsPlanned count (suc at) rest places.new.tracks.items places.new.due.items plan.new.items whole }
     ensures few { length places.new.tracks.items ≤ count }
     ensures index { length places.new.index.items ≡ length places.old.index.items }
     ensures reads { length plan.new.items ≤ length plan.old.items + 1 }
@@ -59,7 +61,9 @@ fn read(track: u32, due: u32, count: u8, places: &mut Places, plan: &mut Vec<(u3
     requires absent { slice_index places.old.index.items track ≡ 0 }
     requires found { IsIndex places.old.index.items places.old.tracks.items }
     requires room { length plan.old.items < vec_capacity plan.old }
-    ensures planned { (rest : List ℕ) (at : ℕ) (whole : List (ℕ × ℕ)) → due ≡ suc at + next_use rest track → IsPlanned count at (track ∷ rest) places.old.tracks.items places.old.due.items plan.old.items whole → IsPlanned count (suc at) rest places.new.tracks.items places.new.due.items plan.new.items whole }
+    ensures planned { (rest : List ℕ) (at : ℕ) (whole : List (ℕ × ℕ)) → due ≡ suc at + next_use rest track
+        → IsPlanned count at (track ∷ rest) places.old.tracks.items places.old.due.items plan.old.items whole
+        → IsPlanned count (suc at) rest places.new.tracks.items places.new.due.items plan.new.items whole }
     ensures few { length places.new.tracks.items ≤ count }
     ensures index { length places.new.index.items ≡ length places.old.index.items }
     ensures reads { length plan.new.items ≡ length plan.old.items + 1 }

@@ -31,9 +31,18 @@ impl Model for Trace {
 
     ghost Value = { Traced };
 
-    ghost view = { λ t. record { limit = t.limit; tracks = t.tracks; last = t.last; too_long = t.too_long; kept = t.changes.items; plan = t.plan.items } };
+    ghost view = { λ t. record {
+      limit = t.limit;
+      tracks = t.tracks;
+      last = t.last;
+      too_long = t.too_long;
+      kept = t.changes.items;
+      plan = t.plan.items;
+    } };
 
-    ghost invariant = { λ t. (length t.changes.items ≤ t.limit) × (t.limit ≤ vec_capacity t.changes) × (t.tracks ≤ vec_capacity t.seen) × (t.limit ≤ vec_capacity t.next) × (t.tracks ≤ vec_capacity t.places.index) × (t.limit ≤ vec_capacity t.plan) × (length t.plan.items ≤ t.limit) };
+    ghost invariant = { λ t. (length t.changes.items ≤ t.limit) × (t.limit ≤ vec_capacity t.changes)
+        × (t.tracks ≤ vec_capacity t.seen) × (t.limit ≤ vec_capacity t.next) × (t.tracks ≤ vec_capacity t.places.index)
+        × (t.limit ≤ vec_capacity t.plan) × (length t.plan.items ≤ t.limit) };
 }
 
 impl Trace {
@@ -110,7 +119,8 @@ impl Trace {
         ensures none { (refs : List ℕ) → HasNoted self.old refs → IsNone result ↔ (self.old.limit < length (changes_of refs)) }
         ensures plan { (refs : List ℕ) → HasNoted self.old refs → IfSome result (λ cost. self.new.plan ≡ farthest refs places) }
         ensures cost { IfSome result (λ cost. cost ≡ length self.new.plan) }
-        ensures least { (refs : List ℕ) → HasNoted self.old refs → IfSome result (λ cost. (moves : List (ℕ × ℕ)) → IsPlanFor refs places moves → cost ≤ length moves) }
+        ensures least { (refs : List ℕ) → HasNoted self.old refs
+            → IfSome result (λ cost. (moves : List (ℕ × ℕ)) → IsPlanFor refs places moves → cost ≤ length moves) }
         ensures no_plan { IsNone result → self.new.plan ≡ [] }
         ensures references { self.new ≡ record self.old { plan = self.new.plan } }
     {

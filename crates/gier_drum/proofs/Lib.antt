@@ -1,3 +1,4 @@
 pub mod Pages
 pub mod Chunks
 pub mod Stored
+pub mod View

@@ -1,5 +1,6 @@
 -- What a call of a drum does to its meaning, where that is told.
-use Rattle.std.specs.Prelude.{◌^◌, ◌-◌, ◌<◌, ◌≤◌, ◌≡◌, ℕ, List, [], ◌∷◌, ◌++◌, All, length, replicate, Result, IsErrOf, Option, None, Some, slice_get, slice_set}
+use Rattle.std.specs.Prelude.{◌^◌, ◌-◌, ◌<◌, ◌≤◌, ◌≡◌, ℕ, List, [], ◌∷◌, ◌++◌, All, length, replicate, Result, IsErrOf, Option}
+use Rattle.std.specs.Prelude.{None, Some, slice_get, slice_set}
 use Rattle.gier_word.specs.Cause.{HasRisen}
 use Rattle.gier_drum.specs.declared.drum.Entry.{Entry}
 use Rattle.gier_drum.specs.declared.drum.RoomFault.{RoomFault}

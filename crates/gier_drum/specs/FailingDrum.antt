@@ -30,13 +30,15 @@ fault_count plan = refusals plan.memory.log + plan.failed
 pub record Counts {T E : Type 0} (old : Plan) (result : Result T E) (new : Plan) : Type 0 where
   pub calls : new.calls ≡ saturating_next old.calls
   pub fails : new.fails ≡ old.fails
-  pub listed : MatchBool (is_listed old) (IsErr result × (new.failed ≡ saturating_next old.failed)) (IsOk result × (new.failed ≡ old.failed))
+  pub listed : MatchBool (is_listed old) (IsErr result × (new.failed ≡ saturating_next old.failed))
+      (IsOk result × (new.failed ≡ old.failed))
 
 -- a call that is counted, that fails and changes no memory where it is listed, and else does this
 pub record FailsOr (old new : Plan) (fault does : Type 0) : Type 0 where
   pub calls : new.calls ≡ saturating_next old.calls
   pub fails : new.fails ≡ old.fails
-  pub listed : MatchBool (is_listed old) (fault × (new.failed ≡ saturating_next old.failed) × (new.memory ≡ old.memory)) (does × (new.failed ≡ old.failed))
+  pub listed : MatchBool (is_listed old) (fault × (new.failed ≡ saturating_next old.failed) × (new.memory ≡ old.memory))
+      (does × (new.failed ≡ old.failed))
 
 abbrev pub FailsOrMakesRoom : {T : Type 0} → Plan → ℕ → Result T RoomFault → Plan → Type 0
 FailsOrMakesRoom old wanted result new = FailsOr old new (result ≡ Err DrumFailed) (MakesRoom old.memory wanted result new.memory)

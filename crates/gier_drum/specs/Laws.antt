@@ -1,4 +1,4 @@
--- What is known of tracks that are told.
+-- What is known of tracks that are told. The laws of the trait `Drum` cite these proofs, and a law may cite specs alone.
 use Rattle.std.specs.Prelude.{◌≡◌, ◌<◌, ◌≤◌, ◌^◌, ℕ, List, All, length, None, Some}
 use Rattle.std.proofs.Common.{ap, arith, subst}
 use Rattle.gier_drum.specs.Drum.{IsTrack}

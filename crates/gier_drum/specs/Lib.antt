@@ -1,4 +1,5 @@
 pub mod Drum
+pub mod View
 pub mod Pages
 pub mod Log
 pub mod Memory

@@ -1,5 +1,6 @@
 -- The journal of a drum in memory: how many entries it may hold, the entries, and how many it has refused.
-use Rattle.std.specs.Prelude.{◌≡◌, ◌+◌, ℕ, zero, suc, List, [], ◌∷◌, ◌++◌, length, nat_lt, nat_le, Bool, false, if◌then◌else◌, Result, IsOk, IsErr, Option, None, Some, MatchBool}
+use Rattle.std.specs.Prelude.{◌≡◌, ◌+◌, ℕ, zero, suc, List, [], ◌∷◌, ◌++◌, length, nat_lt, nat_le, Bool, false, if◌then◌else◌}
+use Rattle.std.specs.Prelude.{Result, IsOk, IsErr, Option, None, Some, MatchBool}
 use Rattle.gier_drum.specs.declared.drum.Entry.{Entry}
 
 pub record Log : Type 0 where
@@ -39,7 +40,8 @@ with_refusal (Some log) = Some (record log { refused = saturating_next log.refus
 
 -- a full journal refuses the entry and counts that; no other does
 abbrev pub Notes : {T E : Type 0} → Option Log → Entry → Result T E → Option Log → Type 0
-Notes old entry result new = MatchBool (is_full old) (IsErr result × (new ≡ with_refusal old)) (IsOk result × (new ≡ with_entry old entry))
+Notes old entry result new =
+    MatchBool (is_full old) (IsErr result × (new ≡ with_refusal old)) (IsOk result × (new ≡ with_entry old entry))
 
 -- an empty journal of so many entries, and none for 0
 abbrev pub new_log : ℕ → Option Log

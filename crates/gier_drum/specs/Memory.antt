@@ -1,5 +1,6 @@
 -- What a drum in memory holds, and what its calls do to that.
-use Rattle.std.specs.Prelude.{◌<◌, ◌≡◌, ◌^◌, ◌-◌, ◌++◌, ℕ, List, All, length, replicate, Option, Some, Result, OnOk, OnErr, IfErr, slice_get, slice_set}
+use Rattle.std.specs.Prelude.{◌<◌, ◌≡◌, ◌^◌, ◌-◌, ◌++◌, ℕ, List, All, length, replicate, Option, Some, Result, OnOk, OnErr}
+use Rattle.std.specs.Prelude.{IfErr, slice_get, slice_set}
 use Rattle.gier_drum.specs.declared.drum.Entry.TheVariants.{Read, Write}
 use Rattle.gier_drum.specs.declared.drum.RoomFault.{RoomFault}
 use Rattle.gier_drum.specs.declared.drum.RoomFault.TheVariants.{Memory as WantOfMemory}

@@ -1,5 +1,6 @@
 -- Pages that are kept in slots: a place of the index has 0, or one more than the number of its slot.
-use Rattle.std.specs.Prelude.{◌<◌, ◌≡◌, ◌*◌, ◌/◌, ◌%◌, ℕ, zero, suc, ◌≤◌, ◌^◌, List, [], ◌∷◌, length, map, All, slice_index, slice_index_or}
+use Rattle.std.specs.Prelude.{◌<◌, ◌≡◌, ◌*◌, ◌/◌, ◌%◌, ℕ, zero, suc, ◌≤◌, ◌^◌, List, [], ◌∷◌, length, map, All, slice_index}
+use Rattle.std.specs.Prelude.{slice_index_or}
 use Rattle.std.specs.List.{range_with_len}
 use Rattle.gier_drum.specs.Drum.{IsTrack}
 
@@ -20,7 +21,8 @@ slots_in_use (suc n ∷ index) = suc (slots_in_use index)
 -- no two places have one slot, and no slot is left over
 pub record IsIndex (index : List ℕ) (slots : List (List ℕ)) : Type 0 where
   pub within : (t : ℕ) → t < length index → slice_index index t ≤ length slots
-  pub apart : (t u : ℕ) → t < length index → u < length index → slice_index index t ≡ slice_index index u → 0 < slice_index index t → t ≡ u
+  pub apart : (t u : ℕ) → t < length index → u < length index → slice_index index t ≡ slice_index index u
+      → 0 < slice_index index t → t ≡ u
   pub count : length slots ≡ slots_in_use index
 
 -- the tracks of a drum in memory

@@ -1,5 +1,6 @@
 // A drum in a file, each word as 8 bytes, least significant first. It tells neither tracks nor journal.
-ghost use Rattle.std.specs.Prelude.{◌≡◌, ◌<◌, ◌≤◌, ◌^◌, ◌*◌, ◌+◌, None, OnOk, OnErr, IsOk, IsErr, IsSome, IsNone, IfErr, All, length, max};
+ghost use Rattle.std.specs.Prelude.{◌≡◌, ◌<◌, ◌≤◌, ◌^◌, ◌*◌, ◌+◌, None, OnOk, OnErr, IsOk, IsErr, IsSome, IsNone, IfErr, All};
+ghost use Rattle.std.specs.Prelude.{length, max};
 ghost use Rattle.gier_drum.specs.declared.drum.RoomFault.TheVariants.{Failed as DrumFailed};
 
 use crate::file_words::{decode, encode};

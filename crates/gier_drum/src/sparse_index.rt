@@ -1,6 +1,7 @@
 // A list of numbers in chunks, of which only those take memory that have a number other than 0.
 // All room is reserved when the list grows, so that no later write needs memory.
-ghost use Rattle.std.specs.Prelude.{◌≡◌, ◌+◌, ◌*◌, ◌-◌, ◌/◌, ◌<◌, ◌≤◌, ◌^◌, ◌++◌, ℕ, suc, [], length, replicate, slice_index, slice_index_or, slice_set, vec_capacity, OnOk, OnErr};
+ghost use Rattle.std.specs.Prelude.{◌≡◌, ◌+◌, ◌*◌, ◌-◌, ◌/◌, ◌<◌, ◌≤◌, ◌^◌, ◌++◌, ℕ, suc, [], length, replicate, slice_index};
+ghost use Rattle.std.specs.Prelude.{slice_index_or, slice_set, vec_capacity, OnOk, OnErr};
 ghost use Rattle.gier_drum.specs.Pages.{AreChunks, entry_at};
 
 use crate::reserve::reserve;
@@ -108,7 +109,8 @@ fn chunk_for(directory: &mut Vec<u32>, chunks: &mut Vec<Chunk>, at: usize) -> us
     ensures chunks { AreChunks directory.new.items chunks.new.items (vec_capacity chunks.new) }
     ensures here { slice_index directory.new.items at ≡ suc result }
     ensures length { length directory.new.items ≡ length directory.old.items }
-    ensures entries { (place : ℕ) → entry_at directory.new.items chunks.new.items place ≡ entry_at directory.old.items chunks.old.items place }
+    ensures entries { (place : ℕ) → entry_at directory.new.items chunks.new.items place
+        ≡ entry_at directory.old.items chunks.old.items place }
 {
     let chunk = number_at(directory, at);
     if chunk != 0 {
@@ -129,7 +131,8 @@ fn blank() -> Chunk
 fn put(chunks: &mut Vec<Chunk>, chunk: usize, at: usize, number: u32)
     requires chunk { chunk < length chunks.old.items }
     requires within { at < 256 }
-    ensures chunks { chunks.new.items ≡ slice_set chunks.old.items chunk (slice_set (slice_index_or chunks.old.items chunk []) at number) }
+    ensures chunks { chunks.new.items
+        ≡ slice_set chunks.old.items chunk (slice_set (slice_index_or chunks.old.items chunk []) at number) }
     ensures capacity { vec_capacity chunks.new ≡ vec_capacity chunks.old }
 {
     chunks[chunk][at] = number;
@@ -142,7 +145,8 @@ fn extend(directory: &mut Vec<u32>, chunks: &mut Vec<Chunk>, wanted: usize) -> R
     ensures chunks { AreChunks directory.new.items chunks.new.items (vec_capacity chunks.new) }
     ensures enough { OnOk result (wanted ≤ length directory.new.items) }
     ensures larger { length directory.old.items ≤ length directory.new.items }
-    ensures entries { (place : ℕ) → entry_at directory.new.items chunks.new.items place ≡ entry_at directory.old.items chunks.old.items place }
+    ensures entries { (place : ℕ) → entry_at directory.new.items chunks.new.items place
+        ≡ entry_at directory.old.items chunks.old.items place }
 {
     let old = directory.len();
     if wanted <= old {

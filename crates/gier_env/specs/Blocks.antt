@@ -5,7 +5,8 @@ use Rattle.gier_agree.specs.declared.kind.Kind.{Kind}
 use Rattle.gier_agree.specs.declared.kind.Kind.TheVariants as kind
 use Rattle.gier_agree.specs.Kinds.{wanted_by}
 use Rattle.gier_word.specs.declared.alarm.Alarm.TheVariants.{Bounds}
-use Rattle.gier_meaning.specs.Tree.{AsExpression, Alone, Identifier, Name, Formal, Statement, Statements, NoStatements, MoreStatements, Declarations, NoDeclarations, Variables, Arrays, Switch, Procedure}
+use Rattle.gier_meaning.specs.Tree.{AsExpression, Alone, Identifier, Name, Formal, Statement, Statements, NoStatements}
+use Rattle.gier_meaning.specs.Tree.{MoreStatements, Declarations, NoDeclarations, Variables, Arrays, Switch, Procedure}
 use Rattle.gier_meaning.specs.Live.{Live}
 use Rattle.gier_meaning.specs.State.{Pair, ACell, AnArray, Kept, Entity, State, with_entity, given_out}
 use Rattle.gier_meaning.specs.Address.{CellAt, value_at}
@@ -15,7 +16,8 @@ use Rattle.gier_meaning.specs.Accounts.{take_elements}
 use Rattle.gier_meaning.specs.Scopes.{declared_names, of_block, quantities, labels, all_labels}
 use Rattle.gier_meaning.specs.TurnLabels.{entities_from, labels_made}
 use Rattle.gier_meaning.specs.Bodies.{ProcedureBody, SwitchList}
-use Rattle.gier_env.specs.Env.{Env, Inside, Bindings, NoBindings, Means, Returns, Outermost, Denoted, AnActual, AnEntity, AProcedure, denotation, with_entities}
+use Rattle.gier_env.specs.Env.{Env, Inside, Bindings, NoBindings, Means, Returns, Outermost, Denoted, AnActual, AnEntity}
+use Rattle.gier_env.specs.Env.{AProcedure, denotation, with_entities}
 use Rattle.gier_env.specs.Computation.{Computation}
 use Rattle.gier_env.specs.Closures.{Closure}
 use Rattle.gier_env.specs.Tasks.{Passed, AValue, AMeaning, Next}
@@ -126,7 +128,8 @@ module _ (limit : ℕ) where
   -- a function's value is what its own cell has in the end (Report 5.4.4)
   abbrev pub function_run : Next → (own cell : ℕ) → (Bindings → Bindings) → Statement → (home : Env) → Computation ℤ
   function_run next own cell formals body home live s =
-      then_do (body_run next formals (Returns own cell NoBindings) body home live s) (λ done s1. Gives (value_at (CellAt cell) s1) s1)
+      then_do (body_run next formals (Returns own cell NoBindings) body home live s)
+      (λ done s1. Gives (value_at (CellAt cell) s1) s1)
 
   abbrev pub procedure_run : Next → (own : ℕ) → Kind → (Bindings → Bindings) → Statement → (home : Env) → Computation ℤ
   procedure_run next own kind.IntegerProcedure formals body home live s =

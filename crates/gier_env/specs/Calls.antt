@@ -61,7 +61,8 @@ standard_passed standard (AValue value ∷ []) line live s = standard_of standar
 standard_passed OutText (AMeaning (AText bytes) ∷ []) line live s = prints_text bytes s
 standard_passed _ _ line live s = senseless line live s
 
-abbrev pub standard_call : Standard → Exprs → (List Kind → State Closure → Outcome Closure (List Passed)) → (line : ℕ) → Computation ℤ
+abbrev pub standard_call : Standard → Exprs → (List Kind → State Closure → Outcome Closure (List Passed)) → (line : ℕ)
+    → Computation ℤ
 standard_call standard NoExprs handed line live s = standard_alone standard line live s
 standard_call standard (MoreExprs e es) handed line live s =
     then_do (handed (standard_formals standard) s) (λ passed s1. standard_passed standard passed line live s1)
@@ -100,17 +101,20 @@ module _ (limit : ℕ) where
       formal_body_call next closure.body closure.home actuals here line live s
   formal_call next _ actuals here line live s = senseless line live s
 
-  abbrev pub declared_body_call : Next → Body → (home : Env) → (List Kind → State Closure → Outcome Closure (List Passed)) → (line : ℕ) → Computation ℤ
+  abbrev pub declared_body_call : Next → Body → (home : Env) → (List Kind → State Closure → Outcome Closure (List Passed))
+      → (line : ℕ) → Computation ℤ
   declared_body_call next (ProcedureBody own kind formals body) home handed line live s =
       then_do (handed (kinds formals) s) (λ passed s1. activation next own kind formals body home passed line live s1)
   declared_body_call next (SwitchList elements) home handed line live s = senseless line live s
 
   -- `handed` hands the actuals over to formals of these kinds
-  abbrev pub declared_call : Next → Entity Closure → (List Kind → State Closure → Outcome Closure (List Passed)) → (line : ℕ) → Computation ℤ
+  abbrev pub declared_call : Next → Entity Closure → (List Kind → State Closure → Outcome Closure (List Passed)) → (line : ℕ)
+      → Computation ℤ
   declared_call next (Kept closure) handed line live s = declared_body_call next closure.body closure.home handed line live s
   declared_call next _ handed line live s = senseless line live s
 
-  abbrev pub call : Next → Option Denoted → Exprs → (here : Env) → (List Kind → State Closure → Outcome Closure (List Passed)) → (line : ℕ) → Computation ℤ
+  abbrev pub call : Next → Option Denoted → Exprs → (here : Env) → (List Kind → State Closure → Outcome Closure (List Passed))
+      → (line : ℕ) → Computation ℤ
   call next (Some (AProcedure n)) actuals here handed line live s = declared_call next (s.store n) handed line live s
   call next (Some (AFormalProcedure n)) actuals here handed line live s = formal_call next (s.store n) actuals here line live s
   call next (Some (AStandard standard)) actuals here handed line live s = standard_call standard actuals handed line live s

@@ -1,7 +1,8 @@
 -- Expressions in an environment (Report 3): their values, addresses of variables, and what designational expressions give.
 use Rattle.std.specs.Prelude.{Option, Some, ℕ, ℤ, pos, List, [], ◌∷◌}
 use Rattle.gier_agree.specs.declared.kind.Kind.{Kind}
-use Rattle.gier_meaning.specs.Tree.{Expr, Number, Logical, Alone, Subscripted, Called, Bracketed, Prefixed, Joined, IfExpr, Quoted, Exprs, NoExprs, MoreExprs}
+use Rattle.gier_meaning.specs.Tree.{Expr, Number, Logical, Alone, Subscripted, Called, Bracketed, Prefixed, Joined, IfExpr}
+use Rattle.gier_meaning.specs.Tree.{Quoted, Exprs, NoExprs, MoreExprs}
 use Rattle.gier_meaning.specs.Lines.{line_of}
 use Rattle.gier_meaning.specs.Live.{Live}
 use Rattle.gier_meaning.specs.State.{State}
@@ -26,7 +27,8 @@ none_handed line live (formal ∷ formals) s = senseless line live s
 module _ (limit : ℕ) where
   -- an identifier alone: a variable, a formal, or a call without actuals
   abbrev pub alone : Next → Option Denoted → Env → (line : ℕ) → Computation ℤ
-  alone next (Some (AProcedure n)) env line live s = call limit next (Some (AProcedure n)) NoExprs env (none_handed line live) line live s
+  alone next (Some (AProcedure n)) env line live s =
+      call limit next (Some (AProcedure n)) NoExprs env (none_handed line live) line live s
   alone next (Some (AFormalProcedure n)) env line live s =
       call limit next (Some (AFormalProcedure n)) NoExprs env (none_handed line live) line live s
   alone next (Some (AStandard standard)) env line live s =
@@ -44,7 +46,8 @@ module _ (limit : ℕ) where
     value next (Called name line es) env live s =
         call limit next (denotation env name) es env (λ formals s1. handed next formals es env line live s1) line live s
     value next (Bracketed line e) env live s = value next e env live s
-    value next (Prefixed op line e) env live s = then_do (value next e env live s) (λ a s1. value_or_alarm (apply_prefix op a) line live s1)
+    value next (Prefixed op line e) env live s =
+        then_do (value next e env live s) (λ a s1. value_or_alarm (apply_prefix op a) line live s1)
     value next (Joined e op line f) env live s =
         then_do (value next e env live s) (λ a s1.
         then_do (value next f env live s1) (λ b s2. value_or_alarm (apply_operator op a b) line live s2))

@@ -32,7 +32,8 @@ labelled_turn next loop execute own turn live s =
     (λ label s1. next.rest label own (MoreStatements loop.body NoStatements) turn live s1)
     (execute turn (given_out (length own) (labels_made own s)))
 
-abbrev pub turn : Next → Loop → Execute → Live → State Closure → (State Closure → Outcome Closure Finished) → Outcome Closure Finished
+abbrev pub turn : Next → Loop → Execute → Live → State Closure → (State Closure → Outcome Closure Finished)
+    → Outcome Closure Finished
 turn next loop execute live s go =
     let own : List ℕ = entities_from s.fresh (labels loop.body) in
     let inner : Env = Inside (with_entities s.fresh (quantities (labels loop.body)) NoBindings) loop.env in
@@ -40,13 +41,15 @@ turn next loop execute live s go =
 
 module _ (limit : ℕ) where
   -- V := E
-  abbrev pub sets : Next → Loop → Expr → Live → State Closure → (State Closure → Outcome Closure Finished) → Outcome Closure Finished
+  abbrev pub sets : Next → Loop → Expr → Live → State Closure → (State Closure → Outcome Closure Finished)
+      → Outcome Closure Finished
   sets next loop e live s go =
       then_do (address limit next (variable loop) loop.env live s) (λ a s1.
       then_do (value limit next e loop.env live s1) (λ v s2. go (receives a v s2)))
 
   -- V := V + B
-  abbrev pub advances : Next → Loop → Expr → (line : ℕ) → Live → State Closure → (State Closure → Outcome Closure Finished) → Outcome Closure Finished
+  abbrev pub advances : Next → Loop → Expr → (line : ℕ) → Live → State Closure → (State Closure → Outcome Closure Finished)
+      → Outcome Closure Finished
   advances next loop b line live s go =
       then_do (address limit next (variable loop) loop.env live s) (λ a s1.
       then_do (value limit next (variable loop) loop.env live s1) (λ v s2.
@@ -62,7 +65,8 @@ module _ (limit : ℕ) where
       then_do (value limit next b loop.env live s3) (λ y s4. value_or_alarm (product_of difference (sign_of y)) line live s4))))
 
   -- a step element from its test on; `exhausted` goes on with the elements behind it
-  abbrev pub steps : Next → Loop → Execute → Expr → Expr → Expr → List Element → Live → State Closure → (State Closure → Outcome Closure Finished) → Outcome Closure Finished
+  abbrev pub steps : Next → Loop → Execute → Expr → Expr → Expr → List Element → Live → State Closure
+      → (State Closure → Outcome Closure Finished) → Outcome Closure Finished
   steps next loop execute a b c rest live s exhausted =
       then_do (distance next loop b c (line_of a) live s) (λ d s1.
       either (int_lt (pos 0) d) s1 exhausted

@@ -71,7 +71,8 @@ module _ (limit : ℕ) where
   within (suc steps) = entered (within steps)
 
   -- a program takes its room, but charges no step; its labels are those of its scope
-  abbrev pub program_run : Next → (line : ℕ) → Statement → (own : List ℕ) → Env → Option ℕ → (room : ℕ) → State Closure → Outcome Closure Finished
+  abbrev pub program_run : Next → (line : ℕ) → Statement → (own : List ℕ) → Env → Option ℕ → (room : ℕ) → State Closure
+      → Outcome Closure Finished
   program_run next line s own env None room st = stops (Alarmed Stack) line [] st
   program_run next line s own env (Some most) room st =
       activated_body limit next s own env (record { shape = InProgram; words = room } ∷ []) (with_most most st)
@@ -86,4 +87,5 @@ module _ (limit : ℕ) where
       let whole : Whole = plain program in
       let own : List ℕ = labels whole.statement in
       let env : Env = Inside (with_entities 0 (quantities own) NoBindings) (Inside standard_bindings Outermost) in
-      observation permitted (executed permitted whole.line whole.statement (entities_from 0 own) env (initial_state unread permitted))
+      observation permitted (executed permitted whole.line whole.statement (entities_from 0 own) env
+      (initial_state unread permitted))

@@ -28,7 +28,8 @@ module _ (limit : ℕ) where
 
   abbrev pub value_of : Next → Option Denoted → (line : ℕ) → Computation ℤ
   value_of next (Some (AnEntity n)) line live s = cell_value (s.store n) line live s
-  value_of next (Some (AnActual meant kind e env)) line live s = evaluation e env line live s (λ live1 s1. next.value e env live1 s1)
+  value_of next (Some (AnActual meant kind e env)) line live s =
+      evaluation e env line live s (λ live1 s1. next.value e env live1 s1)
   value_of next _ line live s = senseless line live s
 
   abbrev pub address_of : Next → Option Denoted → (line : ℕ) → Computation Address

@@ -1,6 +1,7 @@
 -- Statements in an environment (Report 4), and the rest of a statement from a label on (Report 4.1.3 and 4.3.3).
 use Rattle.std.specs.Prelude.{Option, Some, ◌==◌, ◌||◌, ℕ, Bool, false}
-use Rattle.gier_meaning.specs.Tree.{Statement, Labelled, Dummy, Compound, Block, Assign, GoTo, CallOf, If, IfElse, For, Statements, NoStatements, MoreStatements}
+use Rattle.gier_meaning.specs.Tree.{Statement, Labelled, Dummy, Compound, Block, Assign, GoTo, CallOf, If, IfElse, For}
+use Rattle.gier_meaning.specs.Tree.{Statements, NoStatements, MoreStatements}
 use Rattle.gier_meaning.specs.Live.{InBlock}
 use Rattle.gier_meaning.specs.Address.{receive}
 use Rattle.gier_meaning.specs.Outcome.{Gives, Finished, Done, then_do, either}

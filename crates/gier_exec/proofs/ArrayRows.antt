@@ -21,7 +21,7 @@ use Rattle.gier_order.specs.Flat.Rows
 use Rattle.gier_exec.specs.declared.stop.Stop.{Stop}
 use Rattle.gier_exec.specs.Registers.{Registers}
 use Rattle.gier_exec.specs.Rows.{regs_of}
-use Rattle.gier_exec.specs.Following.{Halts, ComesWith, stop_of}
+use Rattle.gier_exec.specs.Following.{RefinesStop, RefinesResult, stop_of}
 use Rattle.gier_exec.proofs.Regions.{put_is, pair_is, cleared_is, moved_is, length-with_zeros}
 use Rattle.gier_exec.proofs.FrameReads.{stopped}
 use Rattle.gier_exec.proofs.RowResults.{on_is, gives_is}
@@ -64,7 +64,7 @@ abbrev row_by : (holds ordered fits : Bool) (regs : Regs) (done : Row) → Row
 row_by holds ordered fits regs done =
     needs holds (if ordered then (if fits then done else plain (Ends (Alarmed Stack) regs)) else plain (Ends (Alarmed Bounds) regs))
 
-halts_by : (entered holds ordered fits : Bool) (regs : Regs) (done : Row) (halt : Halt) → entered ≡ true → refusal_by entered holds ordered fits ≡ Some halt → Halts (row_by holds ordered fits regs done) regs (stop_of halt)
+halts_by : (entered holds ordered fits : Bool) (regs : Regs) (done : Row) (halt : Halt) → entered ≡ true → refusal_by entered holds ordered fits ≡ Some halt → RefinesStop (row_by holds ordered fits regs done) regs (stop_of halt)
 halts_by true false ordered fits regs done halt h e = let is : halt ≡ HaltOdd = cc in rw is refl
 halts_by true true false fits regs done halt h e = let is : halt ≡ HaltAlarm Bounds = cc in rw is refl
 halts_by true true true false regs done halt h e = let is : halt ≡ HaltAlarm Stack = cc in rw is refl
@@ -95,7 +95,7 @@ array_tests code input m s d place from next =
     (elements_is s.words (s.base + from) d)
 
 pub array_halts : (code input : List ℕ) (m : Registers) (s : State) (d place from : ℕ) (halt : Halt) → m.place + 1 < length code → s.entered ≡ true → array_refusal s d place from ≡ Some halt
-    → Halts (array code (length s.words) (regs_of m s input) d (s.base + place) (s.base + from)) (regs_of m s input) (stop_of halt)
+    → RefinesStop (array code (length s.words) (regs_of m s input) d (s.base + place) (s.base + from)) (regs_of m s input) (stop_of halt)
 array_halts code input m s d place from halt next entered refused =
     rw (array_tests code input m s d place from next) (halts_by s.entered _ _ _ (regs_of m s input) (array_done code input m s d place from) halt entered refused)
 
@@ -154,7 +154,7 @@ abbrev element_row_by : (a b c d e f : Bool) (regs : Regs) (done : Row) → Row
 element_row_by a b c d e f regs done =
     needs a (needs b (if c then needs d (if e then needs f done else plain (Ends (Alarmed Subscript) regs)) else plain (Ends (Alarmed Subscript) regs)))
 
-comes_by : (a b c d e f : Bool) (p : ℕ) (regs : Regs) (done : Row) → done ≡ plain (On (record regs { r = p; place = regs.place + 1 })) → ComesWith (element_row_by a b c d e f regs done) regs (stopped (element_by a b c d e f p))
+comes_by : (a b c d e f : Bool) (p : ℕ) (regs : Regs) (done : Row) → done ≡ plain (On (record regs { r = p; place = regs.place + 1 })) → RefinesResult (element_row_by a b c d e f regs done) regs (stopped (element_by a b c d e f p))
 comes_by false b c d e f p regs done is = refl
 comes_by true false c d e f p regs done is = refl
 comes_by true true false d e f p regs done is = refl
@@ -163,11 +163,11 @@ comes_by true true true true false f p regs done is = refl
 comes_by true true true true true false p regs done is = refl
 comes_by true true true true true true p regs done is = is
 
-comes_as : (row mid : Row) (regs : Regs) (result : Result ℕ Stop) → row ≡ mid → ComesWith mid regs result → ComesWith row regs result
+comes_as : (row mid : Row) (regs : Regs) (result : Result ℕ Stop) → row ≡ mid → RefinesResult mid regs result → RefinesResult row regs result
 comes_as row mid regs result e h = rw e h
 
 pub element_row : (code input : List ℕ) (m : Registers) (s : State) (d a : ℕ) (result : Result ℕ Halt) → m.place + 1 < length code → s.entered ≡ true → result ≡ element_of s d a
-    → ComesWith (needs (is_index code (length s.words) (regs_of m s input) d a) (element code (length s.words) (regs_of m s input) d (slice_index s.words (s.base + a)) (s.base + a + 1))) (regs_of m s input) (stopped result)
+    → RefinesResult (needs (is_index code (length s.words) (regs_of m s input) d a) (element code (length s.words) (regs_of m s input) d (slice_index s.words (s.base + a)) (s.base + a + 1))) (regs_of m s input) (stopped result)
 element_row code input m s d a result next entered is =
     let ws = s.words in
     let at = slice_index ws (s.base + a) in

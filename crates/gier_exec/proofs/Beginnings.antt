@@ -16,7 +16,7 @@ use Rattle.gier_order.specs.Flat.Rows.{called, taken_by, can_enter, begins, goes
 use Rattle.gier_exec.specs.declared.activations.Evaluation.{Evaluation}
 use Rattle.gier_exec.specs.Registers.{Registers}
 use Rattle.gier_exec.specs.Rows.{regs_of}
-use Rattle.gier_exec.specs.Beginning.{beginning}
+use Rattle.gier_exec.specs.Beginning.{evaluation_row}
 use Rattle.gier_exec.proofs.Entries.{no_step, no_room, room_there, paid, deeper, called_is}
 use Rattle.gier_exec.proofs.Refusings.{both_left, both_right, not_left, room_free, room_alarm, room_odd, le_of}
 use Rattle.gier_exec.proofs.Searches.{needs_yes, needs_no}
@@ -35,23 +35,23 @@ taken code size m e = taken_by code size m (entry size m.left m.greatest m.top e
 abbrev holds : State → Evaluation → Bool
 holds s e = is_call (length s.words) e.thunk.address e.outer (s.base + 0) 0
 
-begin_can : (code input : List ℕ) (m : Registers) (s : State) (e : Evaluation) → holds s e ≡ true → beginning code (length s.words) (regs_of m s input) e ≡ taken code (length s.words) (regs_of m s input) e
+begin_can : (code input : List ℕ) (m : Registers) (s : State) (e : Evaluation) → holds s e ≡ true → evaluation_row code (length s.words) (regs_of m s input) e ≡ taken code (length s.words) (regs_of m s input) e
 begin_can code input m s e can =
     needs_yes (can_enter code (length s.words) (regs_of m s input) e.thunk.address e.outer s.base 0) (taken code (length s.words) (regs_of m s input) e)
     (can_is code (length s.words) (regs_of m s input) e.thunk.address e.outer s.base (s.base + 0) ∙ can)
 
-pub begin_lost : (code input : List ℕ) (m : Registers) (s : State) (e : Evaluation) → holds s e ≡ false → beginning code (length s.words) (regs_of m s input) e ≡ odd
+pub begin_lost : (code input : List ℕ) (m : Registers) (s : State) (e : Evaluation) → holds s e ≡ false → evaluation_row code (length s.words) (regs_of m s input) e ≡ odd
 begin_lost code input m s e can =
     needs_no (can_enter code (length s.words) (regs_of m s input) e.thunk.address e.outer s.base 0) (taken code (length s.words) (regs_of m s input) e)
     (can_is code (length s.words) (regs_of m s input) e.thunk.address e.outer s.base (s.base + 0) ∙ can)
 
-pub begin_no_step : (code input : List ℕ) (m : Registers) (s : State) (e : Evaluation) → holds s e ≡ true → m.steps ≡ 0 → beginning code (length s.words) (regs_of m s input) e ≡ plain (Ends NoSteps (regs_of m s input))
+pub begin_no_step : (code input : List ℕ) (m : Registers) (s : State) (e : Evaluation) → holds s e ≡ true → m.steps ≡ 0 → evaluation_row code (length s.words) (regs_of m s input) e ≡ plain (Ends NoSteps (regs_of m s input))
 begin_no_step code input m s e can none =
     begin_can code input m s e can
     ∙ ap (λ x. taken_by code (length s.words) (regs_of m s input) x (begin_go code (length s.words) (regs_of m s input) e)) (no_step (length s.words) m.steps s.greatest s.top e.thunk.address none)
 
 begin_no_room : (code input : List ℕ) (m : Registers) (s : State) (e : Evaluation) → holds s e ≡ true → 0 < m.steps → length s.words < s.top + e.thunk.address
-    → beginning code (length s.words) (regs_of m s input) e ≡ plain (Ends (Alarmed Stack) (regs_of (paid m) s input))
+    → evaluation_row code (length s.words) (regs_of m s input) e ≡ plain (Ends (Alarmed Stack) (regs_of (paid m) s input))
 begin_no_room code input m s e can some past =
     begin_can code input m s e can
     ∙ ap (λ x. taken_by code (length s.words) (regs_of m s input) x (begin_go code (length s.words) (regs_of m s input) e)) (no_room (length s.words) m.steps s.greatest s.top e.thunk.address some past)
@@ -72,7 +72,7 @@ entered_regs code input m s e kept entered can fits =
     ∙ ap (λ b. record (regs_of (deeper m) (entered_by m s e) input) { started = b }) entered)
 
 begin_there : (code input : List ℕ) (m : Registers) (s : State) (e : Evaluation) → IsKept s → s.entered ≡ true → holds s e ≡ true → 0 < m.steps → s.top + e.thunk.address ≤ length s.words
-    → beginning code (length s.words) (regs_of m s input) e ≡ begins code (length s.words) (regs_of m s input) e.thunk.level (number_of e.wanted) e.next (regs_of (deeper m) (entered_by m s e) input)
+    → evaluation_row code (length s.words) (regs_of m s input) e ≡ begins code (length s.words) (regs_of m s input) e.thunk.level (number_of e.wanted) e.next (regs_of (deeper m) (entered_by m s e) input)
 begin_there code input m s e kept entered can some fits =
     begin_can code input m s e can
     ∙ ap (λ x. taken_by code (length s.words) (regs_of m s input) x (begin_go code (length s.words) (regs_of m s input) e)) (room_there (length s.words) m.steps s.greatest s.top e.thunk.address some fits)
@@ -113,7 +113,7 @@ begun_not : (m : Registers) (s : State) (e : Evaluation) (halt : Halt) → entry
 begun_not m s e halt refused = ap (λ refusal. entered_unless refusal s (entered_by m s e)) refused
 
 pub begin_goes : (code input : List ℕ) (m : Registers) (s : State) (e : Evaluation) → IsKept s → s.entered ≡ true → is_thunk e.thunk ≡ true → 0 < m.steps → begin_refusal s e.thunk e.outer e.wanted ≡ None
-    → beginning code (length s.words) (regs_of m s input) e ≡ plain (On (record (regs_of (deeper m) (begun s e.thunk e.outer e.wanted (m.place + 1)) input) { place = e.next }))
+    → evaluation_row code (length s.words) (regs_of m s input) e ≡ plain (On (record (regs_of (deeper m) (begun s e.thunk e.outer e.wanted (m.place + 1)) input) { place = e.next }))
 begin_goes code input m s e kept entered thunk some answer =
     let both = answer_none (entry_refusal s e.thunk e.outer) e.thunk e.wanted answer in
     let free = room_free (s.entered && holds s e) (s.top + e.thunk.address) (length s.words) (sym (entry_is s e thunk) ∙ both.0) in
@@ -123,12 +123,12 @@ begin_goes code input m s e kept entered thunk some answer =
 
 pub begin_alarm : (code input : List ℕ) (m after : Registers) (s : State) (e : Evaluation) (alarm : Alarm) → IsKept s → s.entered ≡ true → is_thunk e.thunk ≡ true → 0 < m.steps
     → (alarm ≡ Assignment → after ≡ deeper m) → (alarm ≢ Assignment → after ≡ paid m) → begin_refusal s e.thunk e.outer e.wanted ≡ Some (HaltAlarm alarm)
-    → beginning code (length s.words) (regs_of m s input) e ≡ plain (Ends (Alarmed alarm) (regs_of after (begun s e.thunk e.outer e.wanted (m.place + 1)) input))
+    → evaluation_row code (length s.words) (regs_of m s input) e ≡ plain (Ends (Alarmed alarm) (regs_of after (begun s e.thunk e.outer e.wanted (m.place + 1)) input))
 begin_alarm code input m after s e alarm kept entered thunk some assigned full answer =
     ⊎_elim stack there (answer_some (entry_refusal s e.thunk e.outer) e.thunk e.wanted (HaltAlarm alarm) answer)
   where
     stack : entry_refusal s e.thunk e.outer ≡ Some (HaltAlarm alarm)
-        → beginning code (length s.words) (regs_of m s input) e ≡ plain (Ends (Alarmed alarm) (regs_of after (begun s e.thunk e.outer e.wanted (m.place + 1)) input))
+        → evaluation_row code (length s.words) (regs_of m s input) e ≡ plain (Ends (Alarmed alarm) (regs_of after (begun s e.thunk e.outer e.wanted (m.place + 1)) input))
     stack h =
         let all = room_alarm (s.entered && holds s e) (s.top + e.thunk.address) (length s.words) alarm (sym (entry_is s e thunk) ∙ h) in
         let is : alarm ≡ Stack = all.1.1 in
@@ -136,7 +136,7 @@ begin_alarm code input m after s e alarm kept entered thunk some assigned full a
         rw (begun_not m s e (HaltAlarm alarm) h) (rw (full other) (rw is (begin_no_room code input m s e (both_right s.entered (holds s e) all.0) some all.1.0)))
 
     there : (entry_refusal s e.thunk e.outer ≡ None) × ((is_unassignable e.thunk e.wanted ≡ true) × (HaltAlarm alarm ≡ HaltAlarm Assignment))
-        → beginning code (length s.words) (regs_of m s input) e ≡ plain (Ends (Alarmed alarm) (regs_of after (begun s e.thunk e.outer e.wanted (m.place + 1)) input))
+        → evaluation_row code (length s.words) (regs_of m s input) e ≡ plain (Ends (Alarmed alarm) (regs_of after (begun s e.thunk e.outer e.wanted (m.place + 1)) input))
     there h =
         let free = room_free (s.entered && holds s e) (s.top + e.thunk.address) (length s.words) (sym (entry_is s e thunk) ∙ h.0) in
         let given : HaltAlarm alarm ≡ HaltAlarm Assignment = h.1.1 in
@@ -146,14 +146,14 @@ begin_alarm code input m after s e alarm kept entered thunk some assigned full a
         ∙ ap (λ b. if b then stops code (length s.words) (regs_of m s input) (Alarmed Assignment) (regs_of (deeper m) (entered_by m s e) input) else goes code (length s.words) (regs_of m s input) e.next (regs_of (deeper m) (entered_by m s e) input)) h.1.0)))
 
 pub begin_odd : (code input : List ℕ) (m : Registers) (s : State) (e : Evaluation) → s.entered ≡ true → is_thunk e.thunk ≡ true → begin_refusal s e.thunk e.outer e.wanted ≡ Some HaltOdd
-    → beginning code (length s.words) (regs_of m s input) e ≡ odd
+    → evaluation_row code (length s.words) (regs_of m s input) e ≡ odd
 begin_odd code input m s e entered thunk answer =
     ⊎_elim there never (answer_some (entry_refusal s e.thunk e.outer) e.thunk e.wanted HaltOdd answer)
   where
-    there : entry_refusal s e.thunk e.outer ≡ Some HaltOdd → beginning code (length s.words) (regs_of m s input) e ≡ odd
+    there : entry_refusal s e.thunk e.outer ≡ Some HaltOdd → evaluation_row code (length s.words) (regs_of m s input) e ≡ odd
     there h =
         let no = room_odd (s.entered && holds s e) (s.top + e.thunk.address) (length s.words) (sym (entry_is s e thunk) ∙ h) in
         begin_lost code input m s e (not_left s.entered (holds s e) no entered)
 
-    never : (entry_refusal s e.thunk e.outer ≡ None) × ((is_unassignable e.thunk e.wanted ≡ true) × (HaltOdd ≡ HaltAlarm Assignment)) → beginning code (length s.words) (regs_of m s input) e ≡ odd
+    never : (entry_refusal s e.thunk e.outer ≡ None) × ((is_unassignable e.thunk e.wanted ≡ true) × (HaltOdd ≡ HaltAlarm Assignment)) → evaluation_row code (length s.words) (regs_of m s input) e ≡ odd
     never h = let is = h.1.1 in absurd cc

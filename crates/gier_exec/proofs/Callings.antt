@@ -24,8 +24,8 @@ use Rattle.gier_exec.specs.Reading.{Stand}
 use Rattle.gier_exec.specs.declared.activations.Entry.{Entry}
 use Rattle.gier_exec.specs.Registers.{Registers}
 use Rattle.gier_exec.specs.Rows.{regs_of}
-use Rattle.gier_exec.specs.Searching.{Searches}
-use Rattle.gier_exec.specs.Calling.{entering, IsHead, IsCallable, formals_in}
+use Rattle.gier_exec.specs.Searching.{RefinesSearch}
+use Rattle.gier_exec.specs.Calling.{entry_row, IsHead, IsCallable, formals_in}
 use Rattle.gier_exec.proofs.Entries.{no_step, no_room, room_there, paid, deeper, called_is}
 use Rattle.gier_exec.proofs.Refusings.{both_left, both_right, le_of}
 use Rattle.gier_exec.proofs.Searches.{needs_yes, needs_no, search_found, search_other}
@@ -48,22 +48,22 @@ enter_go code size m e left greatest end = goes code size m e.next (called code 
 abbrev taken : (code : List ℕ) (size : ℕ) (m : Regs) → Entry → Row
 taken code size m e = taken_by code size m (entry size m.left m.greatest m.top e.room) (enter_go code size m e)
 
-entering_can : (code : List ℕ) (size : ℕ) (m : Regs) (e : Entry) → e.count ≤ 511 → is_call size e.room e.outer (m.base + e.from) e.count ≡ true → entering code size m e ≡ taken code size m e
+entering_can : (code : List ℕ) (size : ℕ) (m : Regs) (e : Entry) → e.count ≤ 511 → is_call size e.room e.outer (m.base + e.from) e.count ≡ true → entry_row code size m e ≡ taken code size m e
 entering_can code size m e few can =
     needs_yes (can_enter code size m e.room e.outer (m.base + e.from) e.count) (taken code size m e) (can_is code size m e.room e.outer (m.base + e.from) e.count few ∙ can)
 
-pub entering_odd : (code : List ℕ) (size : ℕ) (m : Regs) (e : Entry) → e.count ≤ 511 → is_call size e.room e.outer (m.base + e.from) e.count ≡ false → entering code size m e ≡ odd
+pub entering_odd : (code : List ℕ) (size : ℕ) (m : Regs) (e : Entry) → e.count ≤ 511 → is_call size e.room e.outer (m.base + e.from) e.count ≡ false → entry_row code size m e ≡ odd
 entering_odd code size m e few can =
     needs_no (can_enter code size m e.room e.outer (m.base + e.from) e.count) (taken code size m e) (can_is code size m e.room e.outer (m.base + e.from) e.count few ∙ can)
 
 pub entering_no_step : (code input : List ℕ) (m : Registers) (s : State) (e : Entry) → e.count ≤ 511 → is_call (length s.words) e.room e.outer (s.base + e.from) e.count ≡ true → m.steps ≡ 0
-    → entering code (length s.words) (regs_of m s input) e ≡ plain (Ends NoSteps (regs_of m s input))
+    → entry_row code (length s.words) (regs_of m s input) e ≡ plain (Ends NoSteps (regs_of m s input))
 entering_no_step code input m s e few can none =
     entering_can code (length s.words) (regs_of m s input) e few can
     ∙ ap (λ x. taken_by code (length s.words) (regs_of m s input) x (enter_go code (length s.words) (regs_of m s input) e)) (no_step (length s.words) m.steps s.greatest s.top e.room none)
 
 pub entering_no_room : (code input : List ℕ) (m : Registers) (s : State) (e : Entry) → e.count ≤ 511 → is_call (length s.words) e.room e.outer (s.base + e.from) e.count ≡ true → 0 < m.steps → length s.words < s.top + e.room
-    → entering code (length s.words) (regs_of m s input) e ≡ plain (Ends (Alarmed Stack) (regs_of (paid m) s input))
+    → entry_row code (length s.words) (regs_of m s input) e ≡ plain (Ends (Alarmed Stack) (regs_of (paid m) s input))
 entering_no_room code input m s e few can some past =
     entering_can code (length s.words) (regs_of m s input) e few can
     ∙ ap (λ x. taken_by code (length s.words) (regs_of m s input) x (enter_go code (length s.words) (regs_of m s input) e)) (no_room (length s.words) m.steps s.greatest s.top e.room some past)
@@ -76,7 +76,7 @@ started_same : (regs : Regs) (b : Bool) (place : ℕ) → b ≡ true → record 
 started_same regs b place e = ap (λ b. record regs { started = b; place = place }) e
 
 pub entering_goes : (code input : List ℕ) (m : Registers) (s : State) (e : Entry) → IsKept s → s.entered ≡ true → e.count ≤ 511 → is_call (length s.words) e.room e.outer (s.base + e.from) e.count ≡ true → 0 < m.steps → s.top + e.room ≤ length s.words
-    → entering code (length s.words) (regs_of m s input) e ≡ plain (On (record (regs_of (deeper m) (frames_called s e.level e.room e.outer (m.place + 1) 0 e.from e.count) input) { place = e.next }))
+    → entry_row code (length s.words) (regs_of m s input) e ≡ plain (On (record (regs_of (deeper m) (frames_called s e.level e.room e.outer (m.place + 1) 0 e.from e.count) input) { place = e.next }))
 entering_goes code input m s e kept entered few can some fits =
     entering_can code (length s.words) (regs_of m s input) e few can
     ∙ ap (λ x. taken_by code (length s.words) (regs_of m s input) x (enter_go code (length s.words) (regs_of m s input) e)) (room_there (length s.words) m.steps s.greatest s.top e.room some fits)
@@ -102,7 +102,7 @@ past_no size room outer base from count few past none =
     false_in true true true true e x y = absurd cc
     false_in true true true false e x y = y
 
-pub entering_past : (code input : List ℕ) (m : Registers) (s : State) (e : Entry) → IsKept s → IsCallable e → 2 ^ 32 ≤ e.from → entering code (length s.words) (regs_of m s input) e ≡ odd
+pub entering_past : (code input : List ℕ) (m : Registers) (s : State) (e : Entry) → IsKept s → IsCallable e → 2 ^ 32 ≤ e.from → entry_row code (length s.words) (regs_of m s input) e ≡ odd
 entering_past code input m s e kept callable past =
     entering_odd code (length s.words) (regs_of m s input) e callable.count (past_no (length s.words) e.room e.outer s.base e.from e.count kept.size past callable.from)
 
@@ -159,7 +159,7 @@ abbrev pub IsMade : (Order → ℕ → Row) → (ℕ → ℕ → ℕ → Row) �
 IsMade go made = (head : Order) (count : ℕ) → go head count ≡ made head.level head.address count
 
 pub search_head : (object : Object) (old new : Stand) (row : Row) (regs : Regs) (head : Order) (go : Order → ℕ → Row) (made : ℕ → ℕ → ℕ → Row) (result : Result Entry Miss) → IsMade go made
-    → IfOk result (λ e. e.level ≡ head.level) → IfOk result (λ e. e.room ≡ head.address) → Searches object old new row regs (λ (e : Entry). go head e.count) result → Searches object old new row regs (λ (e : Entry). made e.level e.room e.count) result
+    → IfOk result (λ e. e.level ≡ head.level) → IfOk result (λ e. e.room ≡ head.address) → RefinesSearch object old new row regs (λ (e : Entry). go head e.count) result → RefinesSearch object old new row regs (λ (e : Entry). made e.level e.room e.count) result
 search_head object old new row regs head go made (Ok e) is level room h =
     search_found object old new row regs (λ (e : Entry). go head e.count) e (λ (e : Entry). made e.level e.room e.count) e h
     (is head e.count ∙ ap (λ l. made l head.address e.count) (sym level) ∙ ap (λ a. made e.level a e.count) (sym room))
@@ -179,7 +179,7 @@ from_is code size m level room outer count a false e = let less : count < 2 = gr
 
 -- the procedure of CALL is entered
 pub call_enters : (code : List ℕ) (size : ℕ) (m : Regs) (e : Entry) (a outer from : ℕ) → e.next ≡ a + 2 → from ≡ (if nat_lt 1 e.count then m.r else 0)
-    → enters code size m e.level e.room outer (m.base + m.r) e.count (a + 2) ≡ entering code size m (record e { outer = outer; from = from })
+    → enters code size m e.level e.room outer (m.base + m.r) e.count (a + 2) ≡ entry_row code size m (record e { outer = outer; from = from })
 call_enters code size m e a outer from next is =
     from_is code size m e.level e.room outer e.count (a + 2) (nat_lt 1 e.count) refl
     ∙ ap (λ n. enters code size m e.level e.room outer (m.base + n) e.count (a + 2)) (sym is)
@@ -206,7 +206,7 @@ abbrev pub bare_go : (code : List ℕ) (size : ℕ) (m : Regs) (place k : ℕ) �
 bare_go code size m place k head count = word_at code size m place (λ outer. enters code size m head.level head.address outer m.base count (k + 2))
 
 abbrev pub bare_entering : (code : List ℕ) (size : ℕ) (m : Regs) (place : ℕ) → Entry → Row
-bare_entering code size m place e = word_at code size m place (λ outer. entering code size m (record e { outer = outer }))
+bare_entering code size m place e = word_at code size m place (λ outer. entry_row code size m (record e { outer = outer }))
 
 bare_is : (code : List ℕ) (size : ℕ) (m : Regs) (place k : ℕ) (head : Order) (e : Entry) → e.level ≡ head.level → e.room ≡ head.address → IsHead e k → bare_go code size m place k head e.count ≡ bare_entering code size m place e
 bare_is code size m place k head e level room parts =
@@ -218,7 +218,7 @@ bare_is code size m place k head e level room parts =
 
 pub search_bare : (object : Object) (old new : Stand) (code : List ℕ) (size : ℕ) (m : Regs) (place k : ℕ) (head : Order) (row : Row) (result : Result Entry Miss)
     → IfOk result (λ e. e.level ≡ head.level) → IfOk result (λ e. e.room ≡ head.address) → IfOk result (λ e. IsHead e k)
-    → Searches object old new row m (λ (e : Entry). bare_go code size m place k head e.count) result → Searches object old new row m (bare_entering code size m place) result
+    → RefinesSearch object old new row m (λ (e : Entry). bare_go code size m place k head e.count) result → RefinesSearch object old new row m (bare_entering code size m place) result
 search_bare object old new code size m place k head row (Ok e) level room parts h =
     search_found object old new row m (λ (e : Entry). bare_go code size m place k head e.count) e (bare_entering code size m place) e h (bare_is code size m place k head e level room parts)
 search_bare object old new code size m place k head row (Err miss) level room parts h =
@@ -233,7 +233,7 @@ abbrev pub kinded_go : (code : List ℕ) (size : ℕ) (m : Regs) (place k n : �
 kinded_go code size m place k n head count = kinded_made code size m place k n head.level head.address count
 
 pub kinded_is : (code : List ℕ) (size : ℕ) (m : Regs) (place k n : ℕ) (e : Entry) → e.next ≡ k + 2 → e.count / 2 ≡ n
-    → kinded_made code size m place k n e.level e.room e.count ≡ word_at code size m place (λ outer. entering code size m (record e { outer = outer; from = m.r }))
+    → kinded_made code size m place k n e.level e.room e.count ≡ word_at code size m place (λ outer. entry_row code size m (record e { outer = outer; from = m.r }))
 kinded_is code size m place k n e next same =
     let yes : (e.count / 2 == n) ≡ true = grind (arith, nat_tests, same) in
     needs_yes (e.count / 2 == n) (word_at code size m place (λ outer. enters code size m e.level e.room outer (m.base + m.r) e.count (k + 2))) yes

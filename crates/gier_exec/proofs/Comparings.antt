@@ -12,9 +12,9 @@ use Rattle.gier_exec.specs.declared.stop.Stop.{Stop}
 use Rattle.gier_exec.specs.declared.stop.Stop.TheVariants.{Odd}
 use Rattle.gier_exec.specs.declared.stop.Miss.{Miss}
 use Rattle.gier_exec.specs.Reading.{Stand}
-use Rattle.gier_exec.specs.References.{Refers, Fetches, fetched_at, stop_step}
-use Rattle.gier_exec.specs.Searching.{Searches}
-use Rattle.gier_exec.specs.Agreeing.{matches}
+use Rattle.gier_exec.specs.References.{Refers, RefinesFetch, fetched_at, stop_step}
+use Rattle.gier_exec.specs.Searching.{RefinesSearch}
+use Rattle.gier_exec.specs.Agreeing.{match_row}
 use Rattle.gier_exec.proofs.Searches.{needs_yes, needs_no, search_as, search_found}
 use Rattle.gier_exec.proofs.SearchReach.{search_word}
 
@@ -50,7 +50,7 @@ module _ (code : List ℕ) (size : ℕ) (m : Regs) where
       ∙ ap (λ n. agrees code size m (groups - 0) (formals + 0) (actuals + 0) n) l
 
   pub agrees_next : (groups g formals actuals count : ℕ) → g < groups
-      → agrees_from groups g formals actuals count ≡ matches code m (formals + g) (actuals + g) (count - g * 10) (agrees_from groups (g + 1) formals actuals count)
+      → agrees_from groups g formals actuals count ≡ match_row code m (formals + g) (actuals + g) (count - g * 10) (agrees_from groups (g + 1) formals actuals count)
   unfolding agrees_from
   agrees_next groups g formals actuals count more =
       let n = groups - (g + 1) in
@@ -59,9 +59,9 @@ module _ (code : List ℕ) (size : ℕ) (m : Regs) where
       let a : actuals + g + 1 ≡ actuals + (g + 1) = omega arith in
       let l : count - g * 10 - 10 ≡ count - (g + 1) * 10 = omega arith in
       ap (λ k. agrees code size m k (formals + g) (actuals + g) (count - g * 10)) e
-      ∙ ap (λ k. matches code m (formals + g) (actuals + g) (count - g * 10) (agrees code size m n k (actuals + g + 1) (count - g * 10 - 10))) f
-      ∙ ap (λ k. matches code m (formals + g) (actuals + g) (count - g * 10) (agrees code size m n (formals + (g + 1)) k (count - g * 10 - 10))) a
-      ∙ ap (λ k. matches code m (formals + g) (actuals + g) (count - g * 10) (agrees code size m n (formals + (g + 1)) (actuals + (g + 1)) k)) l
+      ∙ ap (λ k. match_row code m (formals + g) (actuals + g) (count - g * 10) (agrees code size m n k (actuals + g + 1) (count - g * 10 - 10))) f
+      ∙ ap (λ k. match_row code m (formals + g) (actuals + g) (count - g * 10) (agrees code size m n (formals + (g + 1)) k (count - g * 10 - 10))) a
+      ∙ ap (λ k. match_row code m (formals + g) (actuals + g) (count - g * 10) (agrees code size m n (formals + (g + 1)) (actuals + (g + 1)) k)) l
 
   pub agrees_last : (groups g formals actuals count : ℕ) → g ≡ groups → agrees_from groups g formals actuals count ≡ goes code size m (actuals + groups) m
   unfolding agrees_from
@@ -108,15 +108,15 @@ agree_row code size m l a = reads code (m.place + 1) (agree_word code size m l a
 
 -- the word behind the order is read
 pub agree_count : (object : Object) (old new : Stand) (code : List ℕ) (size : ℕ) (m : Regs) (l a b : ℕ) (result : Result ℕ Miss) → b ≡ m.place + 1 → Refers object (fetched_at b result) old new
-    → Fetches (reads code b (agree_word code size m l a)) (agree_word code size m l a) b result → Searches object old new (agree_row code size m l a) m (agree_word code size m l a) result
+    → RefinesFetch (reads code b (agree_word code size m l a)) (agree_word code size m l a) b result → RefinesSearch object old new (agree_row code size m l a) m (agree_word code size m l a) result
 agree_count object old new code size m l a b result is refers h =
     search_as object old new (agree_row code size m l a) (reads code b (agree_word code size m l a)) m (agree_word code size m l a) result
     (ap (λ p. reads code p (agree_word code size m l a)) (sym is)) (search_word object old new (reads code b (agree_word code size m l a)) b m (agree_word code size m l a) result refers h)
 
 -- then the address in cell
-pub agree_address : (object : Object) (old new : Stand) (code : List ℕ) (size : ℕ) (m : Regs) (l a count k : ℕ) → Searches object old new (agree_row code size m l a) m (agree_word code size m l a) (Ok count)
+pub agree_address : (object : Object) (old new : Stand) (code : List ℕ) (size : ℕ) (m : Regs) (l a count k : ℕ) → RefinesSearch object old new (agree_row code size m l a) m (agree_word code size m l a) (Ok count)
     → agree_word code size m l a count ≡ reads_order code size m k (agree_head code size m count k)
-    → Searches object old new (agree_row code size m l a) m (λ (done : Unit {0}). reads_order code size m k (agree_head code size m count k)) (Ok tt)
+    → RefinesSearch object old new (agree_row code size m l a) m (λ (done : Unit {0}). reads_order code size m k (agree_head code size m count k)) (Ok tt)
 agree_address object old new code size m l a count k h is =
     search_found object old new (agree_row code size m l a) m (agree_word code size m l a) count (λ (done : Unit {0}). reads_order code size m k (agree_head code size m count k)) tt h is
 

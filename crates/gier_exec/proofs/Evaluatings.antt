@@ -19,10 +19,10 @@ use Rattle.gier_exec.specs.declared.stop.Stop.{Stop}
 use Rattle.gier_exec.specs.declared.stop.Stop.TheVariants.{Odd}
 use Rattle.gier_exec.specs.Reading.{Stand}
 use Rattle.gier_exec.specs.Numbers.{is_evaluation, is_choice}
-use Rattle.gier_exec.specs.References.{Refers, Fetches, fetched_at}
-use Rattle.gier_exec.specs.Following.{Gets, Halts, Comes}
-use Rattle.gier_exec.specs.Searching.{Searches}
-use Rattle.gier_exec.specs.Beginning.{beginning}
+use Rattle.gier_exec.specs.References.{Refers, RefinesFetch, fetched_at}
+use Rattle.gier_exec.specs.Following.{RefinesValue, RefinesStop, RefinesJump}
+use Rattle.gier_exec.specs.Searching.{RefinesSearch}
+use Rattle.gier_exec.specs.Beginning.{evaluation_row}
 use Rattle.gier_exec.proofs.Searches.{finds_missed, needs_yes, needs_no}
 use Rattle.gier_exec.specs.declared.stop.Miss.{Miss}
 
@@ -57,7 +57,7 @@ thunk_last code size m a outer wanted head past =
     needs_no _ (begun_by code size m a outer wanted head) no
 
 pub thunk_found : (code : List ℕ) (size : ℕ) (m : Regs) (a : ℕ) (found : Evaluation) → found.thunk.level ≤ 3 → a + 1 < length code → found.next ≡ a + 1
-    → thunk_go code size m a found.outer (number_of found.wanted) found.thunk ≡ beginning code size m found
+    → thunk_go code size m a found.outer (number_of found.wanted) found.thunk ≡ evaluation_row code size m found
 thunk_found code size m a found least next is =
     let yes : (nat_le found.thunk.level 3 && nat_lt (a + 1) (length code)) ≡ true = grind (arith, nat_tests, least, next) in
     needs_yes _ (begun_by code size m a found.outer (number_of found.wanted) found.thunk) yes
@@ -69,11 +69,11 @@ thunk_is thunk is least = let yes : nat_le thunk.level 3 ≡ true = grind (arith
 
 -- A word that is read first
 
-pub search_word : (object : Object) (old new : Stand) (row : Row) (regs : Regs) (go : ℕ → Row) (a word : ℕ) → Refers object (fetched_at a (Ok word)) old new → Fetches row go a (Ok word) → Searches object old new row regs go (Ok word)
+pub search_word : (object : Object) (old new : Stand) (row : Row) (regs : Regs) (go : ℕ → Row) (a word : ℕ) → Refers object (fetched_at a (Ok word)) old new → RefinesFetch row go a (Ok word) → RefinesSearch object old new row regs go (Ok word)
 search_word object old new row regs go a word refers h = (a ∷ [], refers, h)
 
-pub search_missed : {A : Type 0} (object : Object) (old new : Stand) (row : Row) (regs : Regs) (go : ℕ → Row) (other : A → Row) (a : ℕ) (miss : Miss) → Refers object (fetched_at a (Err miss)) old new → Fetches row go a (Err miss)
-    → Searches object old new row regs other (Err miss)
+pub search_missed : {A : Type 0} (object : Object) (old new : Stand) (row : Row) (regs : Regs) (go : ℕ → Row) (other : A → Row) (a : ℕ) (miss : Miss) → Refers object (fetched_at a (Err miss)) old new → RefinesFetch row go a (Err miss)
+    → RefinesSearch object old new row regs other (Err miss)
 search_missed object old new row regs go other a miss refers h = ([], refers, finds_missed row a regs go other miss h)
 
 pub agrees_behind : (object : Object) (refs : List ℕ) (old new : Stand) (tracks : List (List ℕ)) → Refers object refs old new → old.tracks ≡ Some tracks → new.tracks ≡ old.tracks → Agrees (Some tracks) old.places.held → Agrees (Some tracks) new.places.held
@@ -106,7 +106,7 @@ pass_row code size m l a = ap (λ row. needs (nat_lt (m.base + 4) size) row) (ei
 
 -- what is wanted is handed on, but no label
 pub pass_gets : (code : List ℕ) (size : ℕ) (m : Regs) (l a : ℕ) (wanted : Wanted) (result : Result Wanted Stop) → (wanted ≡ Label → result ≡ Err Odd) → (wanted ≢ Label → result ≡ Ok wanted)
-    → Gets (pass_go code size m l a (number_of wanted)) (λ w. pass_cell code size m l a (number_of w)) result
+    → RefinesValue (pass_go code size m l a (number_of wanted)) (λ w. pass_cell code size m l a (number_of w)) result
 pass_gets code size m l a Value result label other = rw (other (λ e. absurd cc)) refl
 pass_gets code size m l a Address result label other = rw (other (λ e. absurd cc)) refl
 pass_gets code size m l a Label result label other = rw (label refl) refl
@@ -159,7 +159,7 @@ none_goes code size m e words next_at at same is =
     found_at false h = absurd cc
 
 pub none_lost : (code : List ℕ) (size : ℕ) (m regs : Regs) (e words : ℕ) (stop : Stop) → e ≡ m.place + 1 → length code ≡ words → Err stop ≡ (if nat_lt e words then Ok e else Err Odd)
-    → Halts (on code size m (record m { r = 0; q = 0 })) regs stop
+    → RefinesStop (on code size m (record m { r = 0; q = 0 })) regs stop
 none_lost code size m regs e words stop at same is =
     let lost = lost_at (nat_lt e words) is in
     rw lost.1 (needs_no (nat_lt (m.place + 1) (length code)) _ (rw (sym at) (rw same lost.0)))

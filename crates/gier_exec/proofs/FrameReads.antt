@@ -15,7 +15,7 @@ use Rattle.gier_exec.specs.declared.stop.Stop.{Stop}
 use Rattle.gier_exec.specs.declared.stop.Stop.TheVariants.{Odd as StopOdd}
 use Rattle.gier_exec.specs.Registers.{Registers}
 use Rattle.gier_exec.specs.Rows.{regs_of}
-use Rattle.gier_exec.specs.Following.{Gets, Refused, stop_of, word_of}
+use Rattle.gier_exec.specs.Following.{RefinesValue, RefinesRefusal, stop_of, word_of}
 use Rattle.gier_exec.proofs.Regions.{found_in, seek_is}
 
 unless_refused : (b : Bool) (halt : Halt) → odd_unless b ≡ Some halt → (b ≡ false) × (halt ≡ HaltOdd)
@@ -26,10 +26,10 @@ and_false : (a b : Bool) → (a && b) ≡ false → a ≡ true → b ≡ false
 and_false true b e h = e
 and_false false b e h = absurd cc
 
-needs_refused : {A : Type 0} (b : Bool) (halt : Halt) (row : Row) (go : A → Row) → b ≡ false → halt ≡ HaltOdd → Gets (needs b row) go (Err (stop_of halt))
+needs_refused : {A : Type 0} (b : Bool) (halt : Halt) (row : Row) (go : A → Row) → b ≡ false → halt ≡ HaltOdd → RefinesValue (needs b row) go (Err (stop_of halt))
 needs_refused b halt row go e h = rw e (rw h refl)
 
-pub word_refused : (s : State) (p : ℕ) (halt : Halt) → place_refusal s p ≡ Some halt → (code input : List ℕ) (m : Registers) (go : ℕ → Row) → s.entered ≡ true → Gets (word_at code (length s.words) (regs_of m s input) p go) go (Err (stop_of halt))
+pub word_refused : (s : State) (p : ℕ) (halt : Halt) → place_refusal s p ≡ Some halt → (code input : List ℕ) (m : Registers) (go : ℕ → Row) → s.entered ≡ true → RefinesValue (word_at code (length s.words) (regs_of m s input) p go) go (Err (stop_of halt))
 word_refused s p halt refused code input m go entered =
     let no = unless_refused _ halt refused in
     needs_refused (nat_lt p (length s.words)) halt (go (slice_index s.words p)) go (and_false s.entered (nat_lt p (length s.words)) no.0 entered) no.1
@@ -99,7 +99,7 @@ abbrev cell_at : Result ℕ Halt → ℕ → Result ℕ Halt
 cell_at found address = elim found as (λ _. Result ℕ Halt) [ Ok base ↦ Ok (base + address) | Err halt ↦ Err halt ]
 
 level_case : (code input : List ℕ) (m : Registers) (s : State) (address : ℕ) (go : ℕ → Row) (r : Result ℕ Halt) (found : Option ℕ) → found_in r ≡ found → OnlyOdd r
-    → Gets (from_base code (length s.words) (regs_of m s input) (λ b. go (b + address)) found) go (stopped (cell_at r address))
+    → RefinesValue (from_base code (length s.words) (regs_of m s input) (λ b. go (b + address)) found) go (stopped (cell_at r address))
 level_case code input m s address go (Ok base) (Some b) e only = let same : b ≡ base = cc in ap (λ b. go (b + address)) same
 level_case code input m s address go (Ok base) None e only = absurd cc
 level_case code input m s address go (Err halt) None e only = needs_refused false halt odd go refl only
@@ -110,7 +110,7 @@ entered_cell s level address entered = ap (λ b. cell_at (if b then sought (suc 
 
 -- a cell of the row is that of the frames
 pub cell_row : (s : State) (level address : ℕ) (result : Result ℕ Halt) → result ≡ cell_of s level address → (code input : List ℕ) (m : Registers) (go : ℕ → Row) → s.entered ≡ true
-    → Gets (in_level code (length s.words) (regs_of m s input) level (λ b. go (b + address))) go (stopped result)
+    → RefinesValue (in_level code (length s.words) (regs_of m s input) level (λ b. go (b + address))) go (stopped result)
 cell_row s level address result is code input m go entered =
     rw (is ∙ entered_cell s level address entered)
     (level_case code input m s address go (sought (suc s.base) s.words level s.base) (seek (suc s.base) (length s.words) (slice_index s.words) level s.base)
@@ -121,7 +121,7 @@ pub cell_found : (s : State) (level address place : ℕ) → Ok place ≡ cell_o
 cell_found s level address place is = cell_row s level address (Ok place) is
 
 pub cell_refused : (s : State) (level address : ℕ) (halt : Halt) → Err halt ≡ cell_of s level address → (code input : List ℕ) (m : Registers) (go : ℕ → Row) → s.entered ≡ true
-    → Gets (in_level code (length s.words) (regs_of m s input) level (λ b. go (b + address))) go (Err (stop_of halt))
+    → RefinesValue (in_level code (length s.words) (regs_of m s input) level (λ b. go (b + address))) go (Err (stop_of halt))
 cell_refused s level address halt is = cell_row s level address (Err halt) is
 
 small_in : (size address place : ℕ) (r : Result ℕ Halt) → IsBelow size r → size < 2 ^ 24 → address < 2 ^ 32 → Ok place ≡ cell_at r address → place < 2 ^ 40
@@ -133,14 +133,14 @@ cell_small s level address place kept is small entered =
     small_in (length s.words) address place (sought (suc s.base) s.words level s.base) (sought_below (suc s.base) s.words level s.base) kept.size small (is ∙ entered_cell s level address entered)
 
 -- a row that is another one is refused as that is
-pub led : (row mid : Row) (stop : Stop) → row ≡ mid → Refused mid stop → Refused row stop
+pub led : (row mid : Row) (stop : Stop) → row ≡ mid → RefinesRefusal mid stop → RefinesRefusal row stop
 led row mid stop e h = rw e h
 
 -- what follows the place of cell, where the word there and the one behind it are read
 abbrev pub pair_at : (code : List ℕ) (size : ℕ) (m : Regs) → (ℕ → ℕ → Row) → ℕ → Row
 pair_at code size m go p = word_at code size m p (λ first. word_at code size m (p + 1) (λ second. go first second))
 
-pub led_on : {A : Type 0} (row mid : Row) (go : A → Row) (result : Result A Stop) → row ≡ mid → Gets mid go result → Gets row go result
+pub led_on : {A : Type 0} (row mid : Row) (go : A → Row) (result : Result A Stop) → row ≡ mid → RefinesValue mid go result → RefinesValue row go result
 led_on row mid go result e h = rw e h
 
 -- the base of a level is its place with the address 0

@@ -180,7 +180,7 @@ module _ (code : List ℕ) (size : ℕ) (m : Regs) (input : List ℕ) where
   chooses_fed table outer (Some k) = reads_fed (table + k) _ _ (λ a. evaluates_fed a outer Rows.for_label)
 
   switches_fed : (table outer : ℕ) → IsFed input (Rows.switches code size m table outer) (Rows.switches code size n table outer)
-  switches_fed table outer = reads_fed table _ _ (λ count. chooses_fed table outer (Rows.chosen (int_of_word m.r) count))
+  switches_fed table outer = reads_fed table _ _ (λ count. chooses_fed table outer (Rows.element_index (int_of_word m.r) count))
 
   agrees_fed : (groups formals actuals left : ℕ) → IsFed input (Rows.agrees code size m groups formals actuals left) (Rows.agrees code size n groups formals actuals left)
   agrees_fed zero formals actuals left = goes_fed input (record m { place = actuals })

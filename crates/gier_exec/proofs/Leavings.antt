@@ -17,7 +17,7 @@ use Rattle.gier_exec.specs.declared.stop.Stop.{Stop}
 use Rattle.gier_exec.specs.declared.stop.Stop.TheVariants.{Odd}
 use Rattle.gier_exec.specs.Registers.{Registers}
 use Rattle.gier_exec.specs.Rows.{regs_of}
-use Rattle.gier_exec.specs.Following.{Comes, can_return, word_of}
+use Rattle.gier_exec.specs.Following.{RefinesJump, can_return, word_of}
 use Rattle.gier_exec.proofs.Refusings.{both_left, both_right, not_left, unless_none, unless_odd, lt_of}
 
 -- What leaves an activation
@@ -240,7 +240,7 @@ return_err words m s stop e =
     by false = refl
 
 -- a row that is another one comes to what that comes to
-pub comes_as : (row mid : Row) (m : Regs) (result : Result ℕ Stop) → row ≡ mid → Comes mid m result → Comes row m result
+pub comes_as : (row mid : Row) (m : Regs) (result : Result ℕ Stop) → row ≡ mid → RefinesJump mid m result → RefinesJump row m result
 comes_as row mid m result e h = rw e h
 
 pub return_past : (code : List ℕ) (size : ℕ) (m : Regs) (l kind : ℕ) → kind ≢ 0 → kind ≢ 1 → effect code size m Return l kind ≡ odd

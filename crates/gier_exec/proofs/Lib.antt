@@ -24,5 +24,6 @@ pub mod Turnings
 pub mod Leavings
 pub mod Beginnings
 pub mod Evaluatings
+pub mod Pagers
 pub mod Procedures
 pub mod Strings

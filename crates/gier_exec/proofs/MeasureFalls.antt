@@ -2,7 +2,7 @@
 use Rattle.std.specs.Prelude.{◌≡◌, ◌+◌, ◌-◌, ◌*◌, ◌<◌, ◌≤◌, ℕ, suc}
 use Rattle.std.proofs.Common.{arith}
 use Rattle.std.proofs.Math.Nat.{mul-le-mul_right}
-use Rattle.gier_exec.specs.Registers.{Registers, weight, Goes}
+use Rattle.gier_exec.specs.Registers.{Registers, weight, Progresses}
 
 -- less or the same weight, and an address ahead
 ahead : (a b words place next : ℕ) → a ≤ b → place < next → next < words → a * (words + 1) + (words - next) < b * (words + 1) + (words - place)
@@ -17,14 +17,14 @@ paid a b words place next less =
     let apart : suc a * (words + 1) ≡ (words + 1) + a * (words + 1) = grind arith in
     omega (arith, scaled, apart)
 
-pub lighter_falls : (words next : ℕ) (old new : Registers) → weight new ≤ weight old → old.place < next → next < words → Goes words old next new
+pub lighter_falls : (words next : ℕ) (old new : Registers) → weight new ≤ weight old → old.place < next → next < words → Progresses words old next new
 lighter_falls words next old new less nearer within = record {
   within = within;
   falls = ahead (weight new) (weight old) words old.place next less nearer within;
 }
 
-pub ahead_falls : (words next : ℕ) (m : Registers) → m.place < next → next < words → Goes words m next m
+pub ahead_falls : (words next : ℕ) (m : Registers) → m.place < next → next < words → Progresses words m next m
 ahead_falls words next m nearer within = lighter_falls words next m m (omega arith) nearer within
 
-pub paid_falls : (words next : ℕ) (old new : Registers) → weight new < weight old → next < words → Goes words old next new
+pub paid_falls : (words next : ℕ) (old new : Registers) → weight new < weight old → next < words → Progresses words old next new
 paid_falls words next old new less within = record { within = within; falls = paid (weight new) (weight old) words old.place next less }

@@ -25,7 +25,7 @@ use Rattle.gier_exec.specs.declared.stop.Quit.{Quit}
 use Rattle.gier_exec.specs.declared.stop.Quit.TheVariants.{Miss as Missed, Read, Write}
 use Rattle.gier_exec.specs.Registers.{Registers}
 use Rattle.gier_exec.specs.Rows.{regs_of, code_in}
-use Rattle.gier_exec.specs.Turning.{told, IsRest, StartsWith, left_by, IsCut, Obeys}
+use Rattle.gier_exec.specs.Turning.{printing_row, IsRest, StartsWith, left_by, IsCut, RefinesExecution}
 use Rattle.gier_exec.specs.Standards.{on_from, Sends, Computes, Receives, after_both, Starts, PrintsOn}
 use Rattle.gier_exec.proofs.RowResults.{on_is, gives_is, answered_comes}
 use Rattle.gier_exec.proofs.Referrings.{length_code}
@@ -49,12 +49,12 @@ part (Some held) new bytes h = (take h.0 bytes, h.1, (drop h.0 bytes, sym (take-
 cut_quiet : (row : Row) (m : Regs) (put : List ℕ) → StartsWith put row.printed → IsCut row m [] put []
 cut_quiet row m put h = record { refs = (row.refs, refl); printed = h; input = omega arith }
 
-printed_is : (code : List ℕ) (size : ℕ) (m : Regs) (bytes : List ℕ) → m.place + 1 < length code → prints code size m bytes ≡ told [] bytes (On (record m { place = m.place + 1 }))
-printed_is code size m bytes lt = ap (λ r. behind_bytes bytes r) (on_is code size m m lt) ∙ ap (λ xs. told [] xs (On (record m { place = m.place + 1 }))) (append-nil bytes)
+printed_is : (code : List ℕ) (size : ℕ) (m : Regs) (bytes : List ℕ) → m.place + 1 < length code → prints code size m bytes ≡ printing_row [] bytes (On (record m { place = m.place + 1 }))
+printed_is code size m bytes lt = ap (λ r. behind_bytes bytes r) (on_is code size m m lt) ∙ ap (λ xs. printing_row [] xs (On (record m { place = m.place + 1 }))) (append-nil bytes)
 
 -- what a text is printed as in all rows
 abbrev pub InRows : Result (List ℕ) Alarm → List ℕ → Result (Unit {0}) Quit → Type 0
-InRows text put result = (code : List ℕ) (size : ℕ) (m : Regs) → m.place + 1 < length code → Obeys (prints_or_alarms code size m text) m m [] put [] (on_from m.place result)
+InRows text put result = (code : List ℕ) (size : ℕ) (m : Regs) → m.place + 1 < length code → RefinesExecution (prints_or_alarms code size m text) m m [] put [] (on_from m.place result)
 
 pub sends_obeys : {K : Type 0} (holds : K → Option (List ℕ)) (text : Result (List ℕ) Alarm) (old : K) (result : Result (Unit {0}) Quit) (new : K) → Sends holds text old result new
     → (put : List ℕ) × Puts (holds old) put (holds new) × InRows text put result
@@ -72,15 +72,15 @@ sends_obeys holds text old (Err Write) new h =
 -- Numbers
 
 pub computes_obeys : (code : List ℕ) (m m1 : Registers) (s : State) (given : Result ℤ Spoil) (result : Result (Unit {0}) Quit) → Computes m given m1 result → m.place + 1 < length code → (rest : List ℕ)
-    → Obeys (answered code (length s.words) (regs_of m s rest) given) (regs_of m s rest) (regs_of m1 s rest) [] [] [] (on_from m.place result)
+    → RefinesExecution (answered code (length s.words) (regs_of m s rest) given) (regs_of m s rest) (regs_of m1 s rest) [] [] [] (on_from m.place result)
 computes_obeys code m m1 s (Ok z) result h lt rest =
     let row = answered code (length s.words) (regs_of m s rest) (Ok z) in
-    subst (λ r. Obeys row (regs_of m s rest) (regs_of m1 s rest) [] [] [] (on_from m.place r)) (sym h.0)
-    (subst (λ x. row ≡ told [] [] (On (record (regs_of x s rest) { place = m.place + 1 }))) (sym h.1) (gives_is code (length s.words) (regs_of m s rest) (word_of_int z) lt))
+    subst (λ r. RefinesExecution row (regs_of m s rest) (regs_of m1 s rest) [] [] [] (on_from m.place r)) (sym h.0)
+    (subst (λ x. row ≡ printing_row [] [] (On (record (regs_of x s rest) { place = m.place + 1 }))) (sym h.1) (gives_is code (length s.words) (regs_of m s rest) (word_of_int z) lt))
 computes_obeys code m m1 s (Err spoil) result h lt rest =
     let row = answered code (length s.words) (regs_of m s rest) (Err spoil) in
-    subst (λ r. Obeys row (regs_of m s rest) (regs_of m1 s rest) [] [] [] (on_from m.place r)) (sym h.0)
-    (subst (λ x. row ≡ told [] [] (Ends (AlarmedEnd (alarm_of spoil)) (regs_of x s rest))) (sym h.1) (answered_comes code (length s.words) (regs_of m s rest) (Err spoil) lt))
+    subst (λ r. RefinesExecution row (regs_of m s rest) (regs_of m1 s rest) [] [] [] (on_from m.place r)) (sym h.0)
+    (subst (λ x. row ≡ printing_row [] [] (Ends (AlarmedEnd (alarm_of spoil)) (regs_of x s rest))) (sym h.1) (answered_comes code (length s.words) (regs_of m s rest) (Err spoil) lt))
 
 -- Data
 
@@ -114,14 +114,14 @@ cut_data code m s bytes rest reading lt most =
 
 pub receives_obeys : (reads : List ℕ → Reading) → ((bytes rest : List ℕ) → IsSettled reads bytes rest) → (code : List ℕ) (m m1 : Registers) (s : State) (bytes : List ℕ) (ended : Bool) (result : Result (Unit {0}) Quit)
     → Receives reads bytes ended m result m1 → m.place + 1 < length code → (rest : List ℕ) → IsRest ended rest
-    → Obeys (receives code (length s.words) (regs_of m s (bytes ++ rest)) (reads (bytes ++ rest))) (regs_of m s (bytes ++ rest)) (regs_of m1 s rest) [] [] bytes (on_from m.place result)
+    → RefinesExecution (receives code (length s.words) (regs_of m s (bytes ++ rest)) (reads (bytes ++ rest))) (regs_of m s (bytes ++ rest)) (regs_of m1 s rest) [] [] bytes (on_from m.place result)
 receives_obeys reads settled code m m1 s bytes ended (Ok done) h lt rest is =
     receives_is reads settled code m s bytes rest (Ok h.0) ended h.1 is
     ∙ on_is code (length s.words) (regs_of m s (bytes ++ rest)) (record (regs_of m s rest) { r = word_of_int h.0 }) lt
-    ∙ ap (λ x. told [] [] (On (record (regs_of x s rest) { place = m.place + 1 }))) (sym h.2)
+    ∙ ap (λ x. printing_row [] [] (On (record (regs_of x s rest) { place = m.place + 1 }))) (sym h.2)
 receives_obeys reads settled code m m1 s bytes ended (Err (Missed (Stopped (Alarmed alarm)))) h lt rest is =
     receives_is reads settled code m s bytes rest (Err alarm) ended h.0 is
-    ∙ ap (λ x. told [] [] (Ends (AlarmedEnd alarm) (regs_of x s rest))) (sym h.1)
+    ∙ ap (λ x. printing_row [] [] (Ends (AlarmedEnd alarm) (regs_of x s rest))) (sym h.1)
 receives_obeys reads settled code m m1 s bytes ended (Err (Missed (Stopped Ended))) h lt rest is = absurd h
 receives_obeys reads settled code m m1 s bytes ended (Err (Missed (Stopped Steps))) h lt rest is = absurd h
 receives_obeys reads settled code m m1 s bytes ended (Err (Missed (Stopped Odd))) h lt rest is = absurd h
@@ -134,11 +134,11 @@ receives_obeys reads settled code m m1 s bytes ended (Err Write) h lt rest is = 
 cut_part : (row : Row) (m : Regs) (read put : List ℕ) → Starts row read put → IsCut row m read put []
 cut_part row m read put h = record { refs = h.0; printed = h.1; input = omega arith }
 
-nothing_behind : (read put : List ℕ) (m : Regs) → after_both read put (plain (On m)) ≡ told read put (On m)
-nothing_behind read put m = ap (λ xs. told xs (put ++ []) (On m)) (append-nil read) ∙ ap (λ xs. told read xs (On m)) (append-nil put)
+nothing_behind : (read put : List ℕ) (m : Regs) → after_both read put (plain (On m)) ≡ printing_row read put (On m)
+nothing_behind read put m = ap (λ xs. printing_row xs (put ++ []) (On m)) (append-nil read) ∙ ap (λ xs. printing_row read xs (On m)) (append-nil put)
 
 pub string_obeys : (code : List ℕ) (size : ℕ) (m : Regs) (row : Row) (read put : List ℕ) (result : Result (Unit {0}) Quit) → PrintsOn row (on code size m m) read put result → m.place + 1 < length code
-    → Obeys row m m read put [] (on_from m.place result)
+    → RefinesExecution row m m read put [] (on_from m.place result)
 string_obeys code size m row read put (Ok done) h lt = h ∙ ap (λ r. after_both read put r) (on_is code size m m lt) ∙ nothing_behind read put (record m { place = m.place + 1 })
 string_obeys code size m row read put (Err (Missed (Stopped (Alarmed alarm)))) h lt = absurd h
 string_obeys code size m row read put (Err (Missed (Stopped Ended))) h lt = absurd h
@@ -195,5 +195,5 @@ does_lib code size m order e =
     ap (λ found. does code size m order found) e
     ∙ ap (λ b. needs b (effect code size m Lib order.level order.address)) (ap (λ b. m.started || b) (starts_alike order.op Lib e) ∙ or_false m.started)
 
-pub obeys_by : (row mid : Row) (before after : Regs) (read put taken : List ℕ) (result : Result ℕ Quit) → row ≡ mid → Obeys mid before after read put taken result → Obeys row before after read put taken result
-obeys_by row mid before after read put taken result e h = subst (λ r. Obeys r before after read put taken result) (sym e) h
+pub obeys_by : (row mid : Row) (before after : Regs) (read put taken : List ℕ) (result : Result ℕ Quit) → row ≡ mid → RefinesExecution mid before after read put taken result → RefinesExecution row before after read put taken result
+obeys_by row mid before after read put taken result e h = subst (λ r. RefinesExecution r before after read put taken result) (sym e) h

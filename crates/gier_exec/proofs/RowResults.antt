@@ -12,10 +12,10 @@ use Rattle.gier_order.specs.Flat.Row.{Regs, On, Row, plain, needs}
 use Rattle.gier_order.specs.Flat.Rows.{on, gives, answered, tested, local, effect, truth}
 use Rattle.gier_exec.specs.declared.stop.Stop.{Stop}
 use Rattle.gier_exec.specs.declared.stop.Stop.TheVariants.{Ended, Alarm as AlarmStop, Steps, Odd}
-use Rattle.gier_exec.specs.Numbers.{worded, signed, test, is_value, is_plain, is_start, is_combined, combination}
-use Rattle.gier_exec.specs.Rows.{shown}
+use Rattle.gier_exec.specs.Numbers.{word_result, sign_result, test, is_value, is_plain, is_start, is_combined, combination}
+use Rattle.gier_exec.specs.Rows.{reading_row}
 use Rattle.gier_exec.specs.References.{stop_step}
-use Rattle.gier_exec.specs.Following.{Gets, Refused, Halts, ComesOn, ComesWith}
+use Rattle.gier_exec.specs.Following.{RefinesValue, RefinesRefusal, RefinesStop, RefinesNext, RefinesResult}
 
 needed : (b : Bool) (row : Row) → b ≡ true → needs b row ≡ row
 needed true row e = refl
@@ -27,14 +27,14 @@ on_is code size m m1 lt = needed (nat_lt (m.place + 1) (length code)) _ (lt-ltb 
 pub gives_is : (code : List ℕ) (size : ℕ) (m : Regs) (word : ℕ) → m.place + 1 < length code → gives code size m word ≡ plain (On (record m { r = word; place = m.place + 1 }))
 gives_is code size m word lt = on_is code size m (record m { r = word }) lt
 
-pub refused_halts : (row : Row) (regs : Regs) (stop : Stop) → Refused row stop → Halts row regs stop
+pub refused_halts : (row : Row) (regs : Regs) (stop : Stop) → RefinesRefusal row stop → RefinesStop row regs stop
 refused_halts row regs Ended h = absurd h
 refused_halts row regs (AlarmStop alarm) h = absurd h
 refused_halts row regs Steps h = absurd h
 refused_halts row regs Odd h = h
 
 -- a word that was found is given to R
-pub gets_comes : (code : List ℕ) (size : ℕ) (m : Regs) (row : Row) (result : Result ℕ Stop) → m.place + 1 < length code → Gets row (λ word. gives code size m word) result → ComesWith row m result
+pub gets_comes : (code : List ℕ) (size : ℕ) (m : Regs) (row : Row) (result : Result ℕ Stop) → m.place + 1 < length code → RefinesValue row (λ word. gives code size m word) result → RefinesResult row m result
 gets_comes code size m row (Ok word) lt h = h ∙ on_is code size m (record m { r = word }) lt
 gets_comes code size m row (Err stop) lt h = refused_halts row m stop h
 
@@ -42,17 +42,17 @@ abbrev pub alarm_stop : Result ℕ Alarm → Result ℕ Stop
 alarm_stop (Ok word) = Ok word
 alarm_stop (Err alarm) = Err (AlarmStop alarm)
 
-pub answered_comes : (code : List ℕ) (size : ℕ) (m : Regs) (x : Result ℤ Spoil) → m.place + 1 < length code → ComesWith (answered code size m x) m (alarm_stop (worded x))
+pub answered_comes : (code : List ℕ) (size : ℕ) (m : Regs) (x : Result ℤ Spoil) → m.place + 1 < length code → RefinesResult (answered code size m x) m (alarm_stop (word_result x))
 answered_comes code size m (Ok z) lt = on_is code size m (record m { r = word_of_int z }) lt
 answered_comes code size m (Err spoil) lt = needed (nat_lt (m.place + 1) (length code)) _ (lt-ltb (m.place + 1) (length code) lt)
 
-tested_comes : (code : List ℕ) (size : ℕ) (m : Regs) (x : Result ℤ Spoil) → m.place + 1 < length code → ComesWith (tested code size m x) m (alarm_stop (signed x))
+tested_comes : (code : List ℕ) (size : ℕ) (m : Regs) (x : Result ℤ Spoil) → m.place + 1 < length code → RefinesResult (tested code size m x) m (alarm_stop (sign_result x))
 tested_comes code size m (Ok z) lt = on_is code size m (record m { r = truth (int_le z (pos 0)) }) lt
 tested_comes code size m (Err spoil) lt = needed (nat_lt (m.place + 1) (length code)) _ (lt-ltb (m.place + 1) (length code) lt)
 
 -- an order on w and R: what follows when w was read
 abbrev Meets : (code : List ℕ) (size : ℕ) (m : Regs) → Operation → (l a : ℕ) → Type 0
-Meets code size m operation l a = (go : ℕ → Row) × ((effect code size m operation l a ≡ local code size m a go) × ((w : ℕ) → ComesWith (go w) m (alarm_stop (combination operation w m.r))))
+Meets code size m operation l a = (go : ℕ → Row) × ((effect code size m operation l a ≡ local code size m a go) × ((w : ℕ) → RefinesResult (go w) m (alarm_stop (combination operation w m.r))))
 
 meets : (code : List ℕ) (size : ℕ) (m : Regs) (operation : Operation) (l a : ℕ) → is_combined operation ≡ true → m.place + 1 < length code → Meets code size m operation l a
 meets code size m Add l a e lt = (_, (refl, λ w. answered_comes code size m (sum_of (int_of_word w) (int_of_word m.r)) lt))
@@ -74,26 +74,26 @@ meets code size m Equiv l a e lt = (_, (refl, λ w. gives_is code size m (truth 
 meets code size m operation l a e lt = absurd cc
 
 abbrev GetsLocal : (code : List ℕ) (size : ℕ) (m : Regs) (a : ℕ) → Result ℕ Stop → Type 0
-GetsLocal code size m a result = (go : ℕ → Row) → Gets (local code size m a go) go result
+GetsLocal code size m a result = (go : ℕ → Row) → RefinesValue (local code size m a go) go result
 
-comes_by : (row mid : Row) (m : Regs) (result : Result ℕ Stop) → row ≡ mid → ComesWith mid m result → ComesWith row m result
+comes_by : (row mid : Row) (m : Regs) (result : Result ℕ Stop) → row ≡ mid → RefinesResult mid m result → RefinesResult row m result
 comes_by row mid m result e h = rw e h
 
-pub combined_comes : (code : List ℕ) (size : ℕ) (m : Regs) (operation : Operation) (l a w : ℕ) (result : Result ℕ Alarm) → is_combined operation ≡ true → m.place + 1 < length code → GetsLocal code size m a (Ok w) → result ≡ combination operation w m.r → ComesWith (effect code size m operation l a) m (alarm_stop result)
+pub combined_comes : (code : List ℕ) (size : ℕ) (m : Regs) (operation : Operation) (l a w : ℕ) (result : Result ℕ Alarm) → is_combined operation ≡ true → m.place + 1 < length code → GetsLocal code size m a (Ok w) → result ≡ combination operation w m.r → RefinesResult (effect code size m operation l a) m (alarm_stop result)
 combined_comes code size m operation l a w result e lt found is =
     let met = meets code size m operation l a e lt in
     comes_by _ _ m (alarm_stop result) (met.1.0 ∙ found met.0) (rw is (met.1.1 w))
 
-pub combined_refused : (code : List ℕ) (size : ℕ) (m : Regs) (operation : Operation) (l a : ℕ) (stop : Stop) → is_combined operation ≡ true → m.place + 1 < length code → GetsLocal code size m a (Err stop) → ComesWith (effect code size m operation l a) m (Err stop)
+pub combined_refused : (code : List ℕ) (size : ℕ) (m : Regs) (operation : Operation) (l a : ℕ) (stop : Stop) → is_combined operation ≡ true → m.place + 1 < length code → GetsLocal code size m a (Err stop) → RefinesResult (effect code size m operation l a) m (Err stop)
 combined_refused code size m operation l a stop e lt found =
     let met = meets code size m operation l a e lt in
     comes_by _ _ m (Err stop) met.1.0 (refused_halts _ m stop (found met.0))
 
 -- a row that is another one comes to what that comes to
-pub comes_on : (row mid : Row) (m : Regs) (result : Result (Unit {0}) Stop) → row ≡ mid → ComesOn mid m result → ComesOn row m result
+pub comes_on : (row mid : Row) (m : Regs) (result : Result (Unit {0}) Stop) → row ≡ mid → RefinesNext mid m result → RefinesNext row m result
 comes_on row mid m result e h = rw e h
 
-pub comes_with : (row mid : Row) (m : Regs) (result : Result ℕ Stop) → row ≡ mid → ComesWith mid m result → ComesWith row m result
+pub comes_with : (row mid : Row) (m : Regs) (result : Result ℕ Stop) → row ≡ mid → RefinesResult mid m result → RefinesResult row m result
 comes_with row mid m result e h = rw e h
 
 pub value_combined : (operation : Operation) → operation ≢ Take → operation ≢ Short → operation ≢ Addr → operation ≢ Fetch → operation ≢ Neg → operation ≢ Not → operation ≢ Index → operation ≢ Base → is_value operation ≡ true → is_combined operation ≡ true
@@ -128,10 +128,10 @@ pub value_starts : (operation : Operation) → is_value operation ≡ true → i
 value_starts Start is = absurd cc
 value_starts operation is = refl
 
-pub comes_halts : (row mid : Row) (m : Regs) (stop : Stop) → row ≡ mid → Halts mid m stop → Halts row m stop
+pub comes_halts : (row mid : Row) (m : Regs) (stop : Stop) → row ≡ mid → RefinesStop mid m stop → RefinesStop row m stop
 comes_halts row mid m stop e h = rw e h
 
-pub halts_does : (row : Row) (m : Regs) (stop : Stop) → Halts row m stop → row ≡ shown [] (stop_step m stop)
+pub halts_does : (row : Row) (m : Regs) (stop : Stop) → RefinesStop row m stop → row ≡ reading_row [] (stop_step m stop)
 halts_does row m Ended h = h
 halts_does row m (AlarmStop alarm) h = h
 halts_does row m Steps h = h

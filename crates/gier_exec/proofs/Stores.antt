@@ -12,7 +12,7 @@ use Rattle.gier_exec.specs.declared.stop.Stop.{Stop}
 use Rattle.gier_exec.specs.declared.stop.Stop.TheVariants.{Odd}
 use Rattle.gier_exec.specs.Registers.{Registers}
 use Rattle.gier_exec.specs.Rows.{regs_of}
-use Rattle.gier_exec.specs.Following.{ComesOn}
+use Rattle.gier_exec.specs.Following.{RefinesNext}
 use Rattle.gier_exec.proofs.Regions.{put_is}
 use Rattle.gier_exec.proofs.RowResults.{on_is}
 
@@ -25,7 +25,7 @@ with_words m s input f g e = ap (λ f. plain (On (record (regs_of m s input) { w
 -- R is written at a place, and the order after is next
 pub store_row : (code input : List ℕ) (m : Registers) (s new : State) (p : ℕ) (result : Result (Unit {0}) Stop) → m.place + 1 < length code
     → (p < length s.words → (result ≡ Ok tt) × (new ≡ after_write s p m.r)) → (length s.words ≤ p → result ≡ Err Odd)
-    → ComesOn (needs (nat_lt p (length s.words)) (on code (length s.words) (regs_of m s input) (record (regs_of m s input) { words = put (slice_index s.words) p m.r }))) (regs_of m new input) result
+    → RefinesNext (needs (nat_lt p (length s.words)) (on code (length s.words) (regs_of m s input) (record (regs_of m s input) { words = put (slice_index s.words) p m.r }))) (regs_of m new input) result
 store_row code input m s new p result next writes refused = ⊎_elim
     (λ lt. let done = writes lt in
     rw (lt-ltb p (length s.words) lt) (rw done.0 (rw done.1 (

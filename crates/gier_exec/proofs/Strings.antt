@@ -12,8 +12,8 @@ use Rattle.gier_exec.specs.declared.stop.Miss.{Miss}
 use Rattle.gier_exec.specs.declared.stop.Miss.TheVariants.{Drum, Stop as Stopped}
 use Rattle.gier_exec.specs.declared.stop.Quit.{Quit}
 use Rattle.gier_exec.specs.declared.stop.Quit.TheVariants.{Miss as Missed, Read, Write}
-use Rattle.gier_exec.specs.References.{Fetches}
-use Rattle.gier_exec.specs.Turning.{told}
+use Rattle.gier_exec.specs.References.{RefinesFetch}
+use Rattle.gier_exec.specs.Turning.{printing_row}
 use Rattle.gier_exec.specs.Standards.{Sends, after_both, Starts, PrintsOn}
 use Rattle.gier_exec.proofs.Procedures.{part}
 
@@ -27,8 +27,8 @@ puts_both (Some held) mid new first second a b =
 
 both_rows : (read put read1 put1 : List ℕ) (row : Row) → after_both read put (after_both read1 put1 row) ≡ after_both (read ++ read1) (put ++ put1) row
 both_rows read put read1 put1 row =
-    ap (λ xs. told xs (put ++ (put1 ++ row.printed)) row.step) (sym (append_assoc read read1 row.refs))
-    ∙ ap (λ xs. told ((read ++ read1) ++ row.refs) xs row.step) (sym (append_assoc put put1 row.printed))
+    ap (λ xs. printing_row xs (put ++ (put1 ++ row.printed)) row.step) (sym (append_assoc read read1 row.refs))
+    ∙ ap (λ xs. printing_row ((read ++ read1) ++ row.refs) xs row.step) (sym (append_assoc put put1 row.printed))
 
 starts_behind : (whole mid : Row) (read put read1 put1 : List ℕ) → whole ≡ after_both read put mid → Starts mid read1 put1 → Starts whole (read ++ read1) (put ++ put1)
 starts_behind whole mid read put read1 put1 e h = (
@@ -51,7 +51,7 @@ prints_behind whole mid go read put read1 put1 (Ok done) e h = e ∙ ap (λ r. a
 prints_behind whole mid go read put read1 put1 (Err quit) e h = stops_behind whole mid go go read put read1 put1 quit e h
 
 -- no word was read
-pub missed_prints : (row go : Row) (next : ℕ → Row) (a : ℕ) (miss : Miss) → Fetches row next a (Err miss) → PrintsOn row go [] [] (Err (Missed miss))
+pub missed_prints : (row go : Row) (next : ℕ → Row) (a : ℕ) (miss : Miss) → RefinesFetch row next a (Err miss) → PrintsOn row go [] [] (Err (Missed miss))
 missed_prints row go next a Drum h = ((row.refs, refl), (row.printed, refl))
 missed_prints row go next a (Stopped Ended) h = absurd h
 missed_prints row go next a (Stopped (Alarmed alarm)) h = absurd h

@@ -5,7 +5,7 @@ use Rattle.gier_order.specs.Flat.Row.{Regs, NoSteps, On, Ends, Row, plain, needs
 use Rattle.gier_order.specs.Flat.Rows.{pays}
 use Rattle.gier_exec.specs.declared.stop.Stop.{Stop}
 use Rattle.gier_exec.specs.declared.stop.Stop.TheVariants.{Odd}
-use Rattle.gier_exec.specs.Following.{Halts}
+use Rattle.gier_exec.specs.Following.{RefinesStop}
 
 -- what TURN does when w was read
 abbrev pub turns : (code : List ℕ) (size : ℕ) (m : Regs) → ℕ → Row
@@ -25,7 +25,7 @@ lost_is word words stop e = by (nat_lt word words) e
     by true e = absurd cc
     by false e = (refl, cc)
 
-pub turn_lost : (code : List ℕ) (size : ℕ) (m : Regs) (w words : ℕ) (stop : Stop) → length code ≡ words → Err stop ≡ (if nat_lt w words then Ok w else Err Odd) → Halts (turns code size m w) m stop
+pub turn_lost : (code : List ℕ) (size : ℕ) (m : Regs) (w words : ℕ) (stop : Stop) → length code ≡ words → Err stop ≡ (if nat_lt w words then Ok w else Err Odd) → RefinesStop (turns code size m w) m stop
 turn_lost code size m w words stop same e = let lost = lost_is w words stop e in rw same (rw lost.0 (rw lost.1 refl))
 
 pays_none : (code : List ℕ) (size : ℕ) (m m1 : Regs) (left a : ℕ) → left ≡ 0 → pays code size m left a m1 ≡ plain (Ends NoSteps m)

@@ -16,8 +16,8 @@ use Rattle.gier_exec.specs.declared.stop.Quit.{Quit}
 use Rattle.gier_exec.specs.declared.stop.Quit.TheVariants.{Miss as Missed, Read, Write}
 use Rattle.gier_exec.specs.Registers.{Registers}
 use Rattle.gier_exec.specs.Rows.{regs_of}
-use Rattle.gier_exec.specs.References.{Does, Begins}
-use Rattle.gier_exec.specs.Turning.{told, left_by, IsCut, Obeys, Follows, turned}
+use Rattle.gier_exec.specs.References.{RefinesOrder, Begins}
+use Rattle.gier_exec.specs.Turning.{printing_row, left_by, IsCut, RefinesExecution, RefinesTurn, turn_of_stop}
 use Rattle.gier_exec.proofs.Inputs.{fed, effect_on}
 
 pub puts_nothing : (holds : Option (List ℕ)) → Puts holds [] holds
@@ -25,7 +25,7 @@ puts_nothing None = refl
 puts_nothing (Some held) = ap Some (sym (append-nil held))
 
 -- the same order on other data
-does_on : (input : List ℕ) (row other : Row) (refs : List ℕ) (regs : Regs) (result : Result ℕ Miss) → other ≡ fed input row → Does row refs regs result → Does other refs (record regs { input = input }) result
+does_on : (input : List ℕ) (row other : Row) (refs : List ℕ) (regs : Regs) (result : Result ℕ Miss) → other ≡ fed input row → RefinesOrder row refs regs result → RefinesOrder other refs (record regs { input = input }) result
 does_on input row other refs regs (Ok next) e h = e ∙ ap (fed input) h
 does_on input row other refs regs (Err (Stopped Ended)) e h = e ∙ ap (fed input) h
 does_on input row other refs regs (Err (Stopped (Alarm alarm))) e h = e ∙ ap (fed input) h
@@ -35,13 +35,13 @@ does_on input row other refs regs (Err Drum) e h = (h.0, ap (λ (r : Row). r.ref
 
 -- what an order does with no data left it does with all others
 pub does_always : (code : List ℕ) (size : ℕ) (m m1 : Registers) (s s1 : State) (operation : Operation) (l a : ℕ) (refs : List ℕ) (result : Result ℕ Miss) → operation ≢ Lib
-    → Does (effect code size (regs_of m s []) operation l a) refs (regs_of m1 s1 []) result → (input : List ℕ) → Does (effect code size (regs_of m s input) operation l a) refs (regs_of m1 s1 input) result
+    → RefinesOrder (effect code size (regs_of m s []) operation l a) refs (regs_of m1 s1 []) result → (input : List ℕ) → RefinesOrder (effect code size (regs_of m s input) operation l a) refs (regs_of m1 s1 input) result
 does_always code size m m1 s s1 operation l a refs result other h input = does_on input _ _ refs (regs_of m1 s1 []) result (effect_on code size (regs_of m s []) input operation l a other) h
 
 cut_begun : (row : Row) (before : Regs) (refs : List ℕ) → Begins refs row → IsCut row before refs [] []
 cut_begun row before refs h = record { refs = h; printed = (row.printed, refl); input = omega arith }
 
-pub obeys_miss : (row mid : Row) (before after : Regs) (refs : List ℕ) (miss : Miss) → row ≡ mid → Does mid refs after (Err miss) → Obeys row before after refs [] [] (Err (Missed miss))
+pub obeys_miss : (row mid : Row) (before after : Regs) (refs : List ℕ) (miss : Miss) → row ≡ mid → RefinesOrder mid refs after (Err miss) → RefinesExecution row before after refs [] [] (Err (Missed miss))
 obeys_miss row mid before after refs Drum e h = cut_begun row before refs (h.0, ap (λ (r : Row). r.refs) e ∙ h.1)
 obeys_miss row mid before after refs (Stopped stop) e h = e ∙ h
 
@@ -57,11 +57,11 @@ cut_behind whole row before place read put taken e cut = record {
   input = subst (λ (r : Row). length taken ≤ length before.input - length (left_by before r.step)) (sym e) cut.input;
 }
 
-pub follows_on : (whole row : Row) (read put : List ℕ) (regs : Regs) (place next : ℕ) → whole ≡ behind_ref place row → row ≡ told read put (On (record regs { place = next })) → whole ≡ told (place ∷ read) put (On (record regs { place = next }))
+pub follows_on : (whole row : Row) (read put : List ℕ) (regs : Regs) (place next : ℕ) → whole ≡ behind_ref place row → row ≡ printing_row read put (On (record regs { place = next })) → whole ≡ printing_row (place ∷ read) put (On (record regs { place = next }))
 follows_on whole row read put regs place next e h = e ∙ ap (λ r. behind_ref place r) h
 
-pub follows_quit : (whole row : Row) (before after : Regs) (read put taken : List ℕ) (place word : ℕ) (quit : Quit) → whole ≡ behind_ref place row → Obeys row before after read put taken (Err quit)
-    → Follows whole before after (place ∷ read) put taken place word (turned quit place word)
+pub follows_quit : (whole row : Row) (before after : Regs) (read put taken : List ℕ) (place word : ℕ) (quit : Quit) → whole ≡ behind_ref place row → RefinesExecution row before after read put taken (Err quit)
+    → RefinesTurn whole before after (place ∷ read) put taken place word (turn_of_stop quit place word)
 follows_quit whole row before after read put taken place word (Missed Drum) e h = cut_behind whole row before place read put taken e h
 follows_quit whole row before after read put taken place word (Missed (Stopped Ended)) e h = e ∙ ap (λ r. behind_ref place r) h
 follows_quit whole row before after read put taken place word (Missed (Stopped (Alarm alarm))) e h = e ∙ ap (λ r. behind_ref place r) h

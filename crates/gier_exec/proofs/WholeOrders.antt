@@ -15,7 +15,7 @@ use Rattle.gier_exec.specs.declared.stop.Miss.{Miss}
 use Rattle.gier_exec.specs.declared.stop.Miss.TheVariants.{Drum, Stop as Stopped}
 use Rattle.gier_exec.specs.declared.stop.Quit.{Quit}
 use Rattle.gier_exec.specs.declared.stop.Quit.TheVariants.{Miss as Missed, Read, Write}
-use Rattle.gier_exec.specs.Rows.{word_in, code_in, shown}
+use Rattle.gier_exec.specs.Rows.{word_in, code_in, reading_row}
 use Rattle.gier_exec.proofs.Referrings.{word_read}
 use Rattle.gier_exec.proofs.Starting.{starts_alike}
 
@@ -148,7 +148,7 @@ does_odd code size m order operation e h =
     ∙ needs_no (m.started || (order.op == 1)) (effect code size m operation order.level order.address) (ap (λ b. m.started || b) (starts_alike order.op operation e) ∙ h)
 
 pub row_none : (tracks : List (List ℕ)) (object : Object) (size : ℕ) (m : Regs) (word : ℕ) → m.place < object.words → word ≡ word_in tracks object m.place → order_at word ≡ None
-    → row_of_order (code_in tracks object) size m ≡ shown (m.place ∷ []) OddStep
+    → row_of_order (code_in tracks object) size m ≡ reading_row (m.place ∷ []) OddStep
 row_none tracks object size m word lt is none =
     word_read tracks object m.place word _ lt is
     ∙ ap (λ found. behind_ref m.place (on_order (code_in tracks object) size m (λ order. does (code_in tracks object) size m order (operation_at order.op)) found)) none

@@ -8,8 +8,8 @@ use Rattle.gier_exec.specs.declared.stop.Stop.{Stop}
 use Rattle.gier_exec.specs.declared.stop.Stop.TheVariants.{Odd}
 
 -- entering a procedure that was found, with the actuals from a place on that is counted from the current base
-abbrev pub entering : (code : List ℕ) (size : ℕ) (m : Regs) → Entry → Row
-entering code size m entry = enters code size m entry.level entry.room entry.outer (m.base + entry.from) entry.count entry.next
+abbrev pub entry_row : (code : List ℕ) (size : ℕ) (m : Regs) → Entry → Row
+entry_row code size m entry = enters code size m entry.level entry.room entry.outer (m.base + entry.from) entry.count entry.next
 
 -- a procedure of which only the words at its address were read
 pub record IsHead (entry : Entry) (address : ℕ) : Type 0 where

@@ -1,6 +1,7 @@
 -- How what a part of the machine answers stands to a row of the order table. Such a part goes on with what it found, and
 -- so does the row; or the order isn't allowed, and so by the row.
-use Rattle.std.specs.Prelude.{◌≡◌, ◌+◌, ◌&&◌, ℕ, Bool, nat_lt, nat_le, max, if◌then◌else◌, List, length, slice_index, Result, Ok, Err}
+use Rattle.std.specs.Prelude.{◌≡◌, ◌+◌, ◌&&◌, ℕ, Bool, nat_lt, nat_le, max, if◌then◌else◌, List, length, slice_index, Result, Ok}
+use Rattle.std.specs.Prelude.{Err}
 use Rattle.gier_frames.specs.State.{State}
 use Rattle.gier_frames.specs.declared.halt.Halt.{Halt}
 use Rattle.gier_frames.specs.declared.halt.Halt.TheVariants.{Alarm as HaltAlarm, Odd as HaltOdd}
@@ -16,43 +17,47 @@ stop_of (HaltAlarm alarm) = Alarm alarm
 stop_of HaltOdd = Odd
 
 -- the row is odd, as the part is; no part that only finds something stops otherwise
-abbrev pub Refused : Row → Stop → Type 0
-Refused row Ended = ⊥
-Refused row (Alarm alarm) = ⊥
-Refused row Steps = ⊥
-Refused row Odd = row ≡ odd
+abbrev pub RefinesRefusal : Row → Stop → Type 0
+RefinesRefusal row Ended = ⊥
+RefinesRefusal row (Alarm alarm) = ⊥
+RefinesRefusal row Steps = ⊥
+RefinesRefusal row Odd = row ≡ odd
 
 -- the row goes on with what was found
-abbrev pub Gets : {A : Type 0} → Row → (A → Row) → Result A Stop → Type 0
-Gets row go (Ok x) = row ≡ go x
-Gets row go (Err stop) = Refused row stop
+abbrev pub RefinesValue : {A : Type 0} → Row → (A → Row) → Result A Stop → Type 0
+RefinesValue row go (Ok x) = row ≡ go x
+RefinesValue row go (Err stop) = RefinesRefusal row stop
 
 -- the row comes to these registers where an order stops or is odd
-abbrev pub Halts : Row → Regs → Stop → Type 0
-Halts row regs Ended = row ≡ plain (Ends HasEnded regs)
-Halts row regs (Alarm alarm) = row ≡ plain (Ends (Alarmed alarm) regs)
-Halts row regs Steps = row ≡ plain (Ends NoSteps regs)
-Halts row regs Odd = row ≡ odd
+abbrev pub RefinesStop : Row → Regs → Stop → Type 0
+RefinesStop row regs Ended = row ≡ plain (Ends HasEnded regs)
+RefinesStop row regs (Alarm alarm) = row ≡ plain (Ends (Alarmed alarm) regs)
+RefinesStop row regs Steps = row ≡ plain (Ends NoSteps regs)
+RefinesStop row regs Odd = row ≡ odd
 
 -- the row goes on at an address, or halts
-abbrev pub Comes : Row → Regs → Result ℕ Stop → Type 0
-Comes row regs (Ok next) = row ≡ plain (On (record regs { place = next }))
-Comes row regs (Err stop) = Halts row regs stop
+abbrev pub RefinesJump : Row → Regs → Result ℕ Stop → Type 0
+RefinesJump row regs (Ok next) = row ≡ plain (On (record regs { place = next }))
+RefinesJump row regs (Err stop) = RefinesStop row regs stop
 
 -- the row goes on with the order after, or halts
-abbrev pub ComesOn : Row → Regs → Result (Unit {0}) Stop → Type 0
-ComesOn row regs (Ok done) = row ≡ plain (On (record regs { place = regs.place + 1 }))
-ComesOn row regs (Err stop) = Halts row regs stop
+abbrev pub RefinesNext : Row → Regs → Result (Unit {0}) Stop → Type 0
+RefinesNext row regs (Ok done) = row ≡ plain (On (record regs { place = regs.place + 1 }))
+RefinesNext row regs (Err stop) = RefinesStop row regs stop
 
 -- the row gives a word to R and goes on with the order after, or halts
-abbrev pub ComesWith : Row → Regs → Result ℕ Stop → Type 0
-ComesWith row regs (Ok word) = row ≡ plain (On (record regs { r = word; place = regs.place + 1 }))
-ComesWith row regs (Err stop) = Halts row regs stop
+abbrev pub RefinesResult : Row → Regs → Result ℕ Stop → Type 0
+RefinesResult row regs (Ok word) = row ≡ plain (On (record regs { r = word; place = regs.place + 1 }))
+RefinesResult row regs (Err stop) = RefinesStop row regs stop
 
 -- GO where R is not 0
-abbrev pub leaps : (code : List ℕ) (size : ℕ) (m : Regs) → Row
-leaps code size m = word_at code size m (m.q + 2) (λ top.
-    needs (nat_le top size && nat_lt m.r (length code)) (pays code size m m.left m.r (record m { base = m.q; top = top; greatest = max m.greatest top })))
+abbrev pub go_row : (code : List ℕ) (size : ℕ) (m : Regs) → Row
+go_row code size m = word_at code size m (m.q + 2) (λ top.
+    needs (nat_le top size && nat_lt m.r (length code)) (pays code size m m.left m.r (record m {
+      base = m.q;
+      top = top;
+      greatest = max m.greatest top;
+    })))
 
 -- the word at a place, where that is one of the stack's
 abbrev pub word_of : State → ℕ → Result ℕ Stop

@@ -6,18 +6,23 @@ use Rattle.gier_word.specs.Alarm.{alarm_of}
 use Rattle.gier_word.specs.declared.alarm.Alarm.{Alarm}
 use Rattle.gier_word.specs.declared.int40.Spoil.{Spoil}
 use Rattle.gier_order.specs.declared.operation.Operation.{Operation}
-use Rattle.gier_order.specs.declared.operation.Operation.TheVariants.{Return, Back, Give, Value, Place, NameL, Pass, Switch, SwForm, Jump, False, Turn, Go, Long, Stop, Proc, Thunk, Kinds, Take, Short, Addr, Fetch, Neg, Not, Index, Base, Keep, Put, Block, Leave, Array, Lab, Start, Add, Sub, Mul, Div, Pow, Lt, Le, Eq, Ge, Gt, Ne, And, Or, Impl, Equiv, Test, Call, Formal, CallF, Agree, ByVal, Lib}
+use Rattle.gier_order.specs.declared.operation.Operation.TheVariants.{Return, Back, Give, Value, Place, NameL, Pass, Switch}
+use Rattle.gier_order.specs.declared.operation.Operation.TheVariants.{SwForm, Jump, False, Turn, Go, Long, Stop, Proc, Thunk}
+use Rattle.gier_order.specs.declared.operation.Operation.TheVariants.{Kinds, Take, Short, Addr, Fetch, Neg, Not, Index, Base}
+use Rattle.gier_order.specs.declared.operation.Operation.TheVariants.{Keep, Put, Block, Leave, Array, Lab, Start, Add, Sub, Mul}
+use Rattle.gier_order.specs.declared.operation.Operation.TheVariants.{Div, Pow, Lt, Le, Eq, Ge, Gt, Ne, And, Or, Impl, Equiv}
+use Rattle.gier_order.specs.declared.operation.Operation.TheVariants.{Test, Call, Formal, CallF, Agree, ByVal, Lib}
 use Rattle.gier_order.specs.Flat.Rows.{truth, is_true, are_equal}
 
 -- the word of a number, or the alarm in its place
-abbrev pub worded : Result ℤ Spoil → Result ℕ Alarm
-worded (Ok z) = Ok (word_of_int z)
-worded (Err spoil) = Err (alarm_of spoil)
+abbrev pub word_result : Result ℤ Spoil → Result ℕ Alarm
+word_result (Ok z) = Ok (word_of_int z)
+word_result (Err spoil) = Err (alarm_of spoil)
 
 -- 0 for a number above 0, and else 1
-abbrev pub signed : Result ℤ Spoil → Result ℕ Alarm
-signed (Ok z) = Ok (truth (int_le z (pos 0)))
-signed (Err spoil) = Err (alarm_of spoil)
+abbrev pub sign_result : Result ℤ Spoil → Result ℕ Alarm
+sign_result (Ok z) = Ok (truth (int_le z (pos 0)))
+sign_result (Err spoil) = Err (alarm_of spoil)
 
 -- ADD to POW
 abbrev pub is_arithmetic : Operation → Bool
@@ -29,11 +34,11 @@ is_arithmetic Pow = true
 is_arithmetic operation = false
 
 abbrev pub arithmetic : Operation → (w r : ℕ) → Result ℕ Alarm
-arithmetic Add w r = worded (sum_of (int_of_word w) (int_of_word r))
-arithmetic Sub w r = worded (difference_of (int_of_word w) (int_of_word r))
-arithmetic Mul w r = worded (product_of (int_of_word w) (int_of_word r))
-arithmetic Div w r = worded (quotient_of (int_of_word w) (int_of_word r))
-arithmetic Pow w r = worded (power_of (int_of_word w) (int_of_word r))
+arithmetic Add w r = word_result (sum_of (int_of_word w) (int_of_word r))
+arithmetic Sub w r = word_result (difference_of (int_of_word w) (int_of_word r))
+arithmetic Mul w r = word_result (product_of (int_of_word w) (int_of_word r))
+arithmetic Div w r = word_result (quotient_of (int_of_word w) (int_of_word r))
+arithmetic Pow w r = word_result (power_of (int_of_word w) (int_of_word r))
 arithmetic operation w r = Ok r
 
 -- LT to NE and AND to EQUIV
@@ -69,7 +74,7 @@ is_combined Test = true
 is_combined operation = is_arithmetic operation || is_test operation
 
 abbrev pub combination : Operation → (w r : ℕ) → Result ℕ Alarm
-combination Test w r = signed (product_of (int_of_word w) (sign_of (int_of_word r)))
+combination Test w r = sign_result (product_of (int_of_word w) (sign_of (int_of_word r)))
 combination operation w r = if is_arithmetic operation then arithmetic operation w r else Ok (truth (test operation w r))
 
 -- the orders that give a word to R, and change nothing else

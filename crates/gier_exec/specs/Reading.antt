@@ -5,6 +5,7 @@ use Rattle.gier_order.specs.Counts.{Counts, references_taken}
 use Rattle.gier_order.specs.declared.object.Object.{Object}
 use Rattle.gier_places.specs.Contents.{Contents, LogsReads}
 use Rattle.gier_best.specs.TraceModel.{Traced, AreTracks, KeepsSettings}
+use Rattle.gier_exec.specs.declared.pager.Pager.{Pager}
 
 -- how many tracks so many words fill
 abbrev pub tracks_for : ℕ → ℕ
@@ -20,9 +21,31 @@ pub record Stand : Type 0 where
   pub recent : Counts
   pub trace : Traced
 
-abbrev pub seen : {D : Type 0} → (D → ℕ) → (D → Option (List (List ℕ))) → (D → Option (List Entry)) → (D → ℕ) → D → Contents → Counts → Traced → Stand
-seen room tracks journal faults drum places recent trace =
-    record { room = room drum; tracks = tracks drum; journal = journal drum; faults = faults drum; places = places; recent = recent; trace = trace }
+abbrev pub view_of : {D : Type 0} → (D → ℕ) → (D → Option (List (List ℕ))) → (D → Option (List Entry)) → (D → ℕ) → D → Contents
+    → Counts → Traced → Stand
+view_of room tracks journal faults drum places recent trace =
+    record {
+      room = room drum;
+      tracks = tracks drum;
+      journal = journal drum;
+      faults = faults drum;
+      places = places;
+      recent = recent;
+      trace = trace;
+    }
+
+-- the same of a pager
+abbrev pub pager_view : {D : Type 0} → (D → ℕ) → (D → Option (List (List ℕ))) → (D → Option (List Entry)) → (D → ℕ) → Pager D
+    → Stand
+pager_view room tracks journal faults pager =
+    view_of room tracks journal faults pager.drum.now pager.places.now pager.recent.now pager.trace.now
+
+-- a pager goes on with what it borrowed
+pub record SamePager {D : Type 0} (old new : Pager D) : Type 0 where
+  pub drum : new.drum.ghost_name ≡ old.drum.ghost_name
+  pub places : new.places.ghost_name ≡ old.places.ghost_name
+  pub recent : new.recent.ghost_name ≡ old.recent.ghost_name
+  pub trace : new.trace.ghost_name ≡ old.trace.ghost_name
 
 -- some reads were appended to the journal, where it is told
 abbrev pub ReadsMore : Option (List Entry) → Option (List Entry) → Type 0

@@ -6,11 +6,12 @@ use Rattle.gier_word.specs.declared.refusal.Failed.{Failed}
 use Rattle.gier_order.specs.Counts.{StandsFor as RecentFor}
 use Rattle.gier_order.specs.Misses.{misses}
 use Rattle.gier_order.specs.declared.object.Object.{Object}
-use Rattle.gier_order.specs.Flat.Row.{Regs, Ended as HasEnded, Alarmed, NoSteps, Step, On, Ends, Odd as OddStep, Row, behind_ref, odd}
+use Rattle.gier_order.specs.Flat.Row.{Regs, Ended as HasEnded, Alarmed, NoSteps, Step, On, Ends, Odd as OddStep, Row, behind_ref}
+use Rattle.gier_order.specs.Flat.Row.{odd}
 use Rattle.gier_places.specs.Contents.{Agrees, LogsReads, StandsFor as PlacesFor}
 use Rattle.gier_best.specs.TraceModel.{HasNoted}
 use Rattle.gier_exec.specs.Reading.{Stand}
-use Rattle.gier_exec.specs.Rows.{track_words, track_of, shown}
+use Rattle.gier_exec.specs.Rows.{track_words, track_of, reading_row}
 use Rattle.gier_exec.specs.declared.stop.Stop.{Stop}
 use Rattle.gier_exec.specs.declared.stop.Stop.TheVariants.{Ended, Alarm, Steps, Odd}
 use Rattle.gier_exec.specs.declared.stop.Miss.{Miss}
@@ -30,7 +31,8 @@ pub record Refers (object : Object) (refs : List ℕ) (old new : Stand) : Type 0
   pub recent : (before : List ℕ) → RecentFor old.recent before → RecentFor new.recent (before ++ tracks_of object refs)
   pub noted : (before : List ℕ) → HasNoted old.trace before → HasNoted new.trace (before ++ notes_of refs)
   pub stands : (before : List ℕ) → PlacesFor old.places before → PlacesFor new.places (before ++ tracks_of object refs)
-  pub reads : (before : List ℕ) (journal : Option (List Entry)) → PlacesFor old.places before → LogsReads journal (misses before old.places.places) old.journal
+  pub reads : (before : List ℕ) (journal : Option (List Entry)) → PlacesFor old.places before
+      → LogsReads journal (misses before old.places.places) old.journal
       → LogsReads journal (misses (before ++ tracks_of object refs) old.places.places) new.journal
 
 -- the address was referred to where the word was read
@@ -43,13 +45,13 @@ fetched_at a (Ok word) = a ∷ []
 fetched_at a (Err miss) = []
 
 -- a row that reads a word goes on with it, or is odd; of a failed drum nothing is said
-abbrev pub Fetches : Row → (ℕ → Row) → ℕ → Result ℕ Miss → Type 0
-Fetches row go a (Ok word) = row ≡ behind_ref a (go word)
-Fetches row go a (Err Drum) = ⊤
-Fetches row go a (Err (Stopped Ended)) = ⊥
-Fetches row go a (Err (Stopped (Alarm alarm))) = ⊥
-Fetches row go a (Err (Stopped Steps)) = ⊥
-Fetches row go a (Err (Stopped Odd)) = row ≡ odd
+abbrev pub RefinesFetch : Row → (ℕ → Row) → ℕ → Result ℕ Miss → Type 0
+RefinesFetch row go a (Ok word) = row ≡ behind_ref a (go word)
+RefinesFetch row go a (Err Drum) = ⊤
+RefinesFetch row go a (Err (Stopped Ended)) = ⊥
+RefinesFetch row go a (Err (Stopped (Alarm alarm))) = ⊥
+RefinesFetch row go a (Err (Stopped Steps)) = ⊥
+RefinesFetch row go a (Err (Stopped Odd)) = row ≡ odd
 
 -- the row's step where an order stops
 abbrev pub stop_step : Regs → Stop → Step
@@ -64,7 +66,7 @@ Begins refs row = (rest : List ℕ) × (row.refs ≡ refs ++ rest)
 
 -- The row reads these words, and comes to these registers, with the address of the next order, where it goes on. Where the
 -- drum failed, the words that were read are the first of the row's.
-abbrev pub Does : Row → List ℕ → Regs → Result ℕ Miss → Type 0
-Does row refs regs (Ok next) = row ≡ shown refs (On (record regs { place = next }))
-Does row refs regs (Err (Stopped stop)) = row ≡ shown refs (stop_step regs stop)
-Does row refs regs (Err Drum) = Begins refs row
+abbrev pub RefinesOrder : Row → List ℕ → Regs → Result ℕ Miss → Type 0
+RefinesOrder row refs regs (Ok next) = row ≡ reading_row refs (On (record regs { place = next }))
+RefinesOrder row refs regs (Err (Stopped stop)) = row ≡ reading_row refs (stop_step regs stop)
+RefinesOrder row refs regs (Err Drum) = Begins refs row

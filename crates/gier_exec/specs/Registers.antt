@@ -10,8 +10,8 @@ pub record Registers : Type 0 where
   pub steps : ℕ
 
 -- at the first order
-abbrev pub begun_at : ℕ → ℕ → Registers
-begun_at start steps = record { place = start; r = 0; q = 0; depth = 0; steps = steps }
+abbrev pub first_registers : ℕ → ℕ → Registers
+first_registers start steps = record { place = start; r = 0; q = 0; depth = 0; steps = steps }
 
 -- R and Q are words, and the depth never passes what a register of 64 bits holds
 pub record AreWords (m : Registers) : Type 0 where
@@ -28,11 +28,11 @@ abbrev pub measure : ℕ → Registers → ℕ
 measure words m = (2 * m.steps + m.depth) * (words + 1) + (words - m.place)
 
 -- what every order leaves: the place, and no more steps than there were
-pub record Keeps (old new : Registers) : Type 0 where
+pub record PreservesPlace (old new : Registers) : Type 0 where
   pub place : new.place ≡ old.place
   pub steps : new.steps ≤ old.steps
 
 -- the run can go on there, and the measure falls
-pub record Goes (words : ℕ) (old : Registers) (next : ℕ) (new : Registers) : Type 0 where
+pub record Progresses (words : ℕ) (old : Registers) (next : ℕ) (new : Registers) : Type 0 where
   pub within : next < words
   pub falls : measure words (record new { place = next }) < measure words old

@@ -51,5 +51,5 @@ abbrev pub behind : List ℕ → Row → Row
 behind refs row = record row { refs = refs ++ row.refs }
 
 -- a row that read these words and printed nothing
-abbrev pub shown : List ℕ → Step → Row
-shown refs step = record { refs = refs; printed = []; step = step }
+abbrev pub reading_row : List ℕ → Step → Row
+reading_row refs step = record { refs = refs; printed = []; step = step }

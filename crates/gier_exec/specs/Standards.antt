@@ -13,7 +13,7 @@ use Rattle.gier_exec.specs.declared.stop.Miss.TheVariants.{Drum, Stop as Stopped
 use Rattle.gier_exec.specs.declared.stop.Quit.{Quit}
 use Rattle.gier_exec.specs.declared.stop.Quit.TheVariants.{Miss as Missed, Read, Write}
 use Rattle.gier_exec.specs.Registers.{Registers}
-use Rattle.gier_exec.specs.Turning.{told, StartsWith}
+use Rattle.gier_exec.specs.Turning.{printing_row, StartsWith}
 
 -- the address of the order after, where the procedure lets the run go on
 abbrev pub on_from : ℕ → Result (Unit {0}) Quit → Result ℕ Quit
@@ -39,8 +39,10 @@ Computes old (Err spoil) new result = (result ≡ Err (Missed (Stopped (Alarmed 
 -- What was made of the bytes that were taken comes to R, or is an alarm. Where the source failed they are the first of those
 -- that the procedure takes.
 abbrev pub Receives : (List ℕ → Reading) → List ℕ → Bool → Registers → Result (Unit {0}) Quit → Registers → Type 0
-Receives reads bytes ended old (Ok done) new = (z : ℤ) × Makes (reads bytes) bytes (Ok z) ended × (new ≡ record old { r = word_of_int z })
-Receives reads bytes ended old (Err (Missed (Stopped (Alarmed alarm)))) new = Makes (reads bytes) bytes (Err alarm) ended × (new ≡ old)
+Receives reads bytes ended old (Ok done) new = (z : ℤ) × Makes (reads bytes) bytes (Ok z) ended
+    × (new ≡ record old { r = word_of_int z })
+Receives reads bytes ended old (Err (Missed (Stopped (Alarmed alarm)))) new = Makes (reads bytes) bytes (Err alarm) ended
+    × (new ≡ old)
 Receives reads bytes ended old (Err (Missed (Stopped Ended))) new = ⊥
 Receives reads bytes ended old (Err (Missed (Stopped Steps))) new = ⊥
 Receives reads bytes ended old (Err (Missed (Stopped Odd))) new = ⊥
@@ -63,7 +65,7 @@ PrintsOn row go read put (Ok done) = row ≡ after_both read put go
 PrintsOn row go read put (Err (Missed (Stopped (Alarmed alarm)))) = ⊥
 PrintsOn row go read put (Err (Missed (Stopped Ended))) = ⊥
 PrintsOn row go read put (Err (Missed (Stopped Steps))) = ⊥
-PrintsOn row go read put (Err (Missed (Stopped Odd))) = row ≡ told read put OddStep
+PrintsOn row go read put (Err (Missed (Stopped Odd))) = row ≡ printing_row read put OddStep
 PrintsOn row go read put (Err (Missed Drum)) = Starts row read put
 PrintsOn row go read put (Err Read) = ⊥
 PrintsOn row go read put (Err Write) = Starts row read put

@@ -9,11 +9,13 @@ use Rattle.gier_exec.specs.declared.stop.Miss.TheVariants.{Drum, Stop as Stopped
 use Rattle.gier_exec.specs.declared.stop.Quit.{Quit}
 use Rattle.gier_exec.specs.declared.stop.Quit.TheVariants.{Miss as Missed, Read, Write}
 use Rattle.gier_exec.specs.declared.turn.Turn.{Turn}
-use Rattle.gier_exec.specs.declared.turn.Turn.TheVariants.{On as TurnOn, Ended as TurnEnded, Alarm as TurnAlarm, Steps as TurnSteps, Read as TurnRead, Write as TurnWrite, Drum as TurnDrum, Spoilt as TurnSpoilt}
+use Rattle.gier_exec.specs.declared.turn.Turn.TheVariants.{On as TurnOn, Ended as TurnEnded, Alarm as TurnAlarm}
+use Rattle.gier_exec.specs.declared.turn.Turn.TheVariants.{Steps as TurnSteps, Read as TurnRead, Write as TurnWrite}
+use Rattle.gier_exec.specs.declared.turn.Turn.TheVariants.{Drum as TurnDrum, Spoilt as TurnSpoilt}
 
 -- a row that read these words and printed these bytes
-abbrev pub told : List ℕ → List ℕ → Step → Row
-told refs printed step = record { refs = refs; printed = printed; step = step }
+abbrev pub printing_row : List ℕ → List ℕ → Step → Row
+printing_row refs printed step = record { refs = refs; printed = printed; step = step }
 
 -- what can stand behind the data that were taken
 abbrev pub IsRest : Bool → List ℕ → Type 0
@@ -36,30 +38,31 @@ pub record IsCut (row : Row) (before : Regs) (read put taken : List ℕ) : Type 
   pub input : length taken ≤ length before.input - length (left_by before row.step)
 
 -- what carrying out an order answers
-abbrev pub Obeys : Row → (before after : Regs) → (read put taken : List ℕ) → Result ℕ Quit → Type 0
-Obeys row before after read put taken (Ok next) = row ≡ told read put (On (record after { place = next }))
-Obeys row before after read put taken (Err (Missed (Stopped stop))) = row ≡ told read put (stop_step after stop)
-Obeys row before after read put taken (Err (Missed Drum)) = IsCut row before read put taken
-Obeys row before after read put taken (Err Read) = IsCut row before read put taken
-Obeys row before after read put taken (Err Write) = IsCut row before read put taken
+abbrev pub RefinesExecution : Row → (before after : Regs) → (read put taken : List ℕ) → Result ℕ Quit → Type 0
+RefinesExecution row before after read put taken (Ok next) = row ≡ printing_row read put (On (record after { place = next }))
+RefinesExecution row before after read put taken (Err (Missed (Stopped stop))) = row ≡ printing_row read put (stop_step after stop)
+RefinesExecution row before after read put taken (Err (Missed Drum)) = IsCut row before read put taken
+RefinesExecution row before after read put taken (Err Read) = IsCut row before read put taken
+RefinesExecution row before after read put taken (Err Write) = IsCut row before read put taken
 
 -- what `step_order` answers; an order that is odd is told with its place and its word
-abbrev pub Follows : Row → (before after : Regs) → (read put taken : List ℕ) → (place word : ℕ) → Turn → Type 0
-Follows row before after read put taken place word TurnOn = row ≡ told read put (On after)
-Follows row before after read put taken place word TurnEnded = row ≡ told read put (Ends HasEnded after)
-Follows row before after read put taken place word (TurnAlarm alarm) = row ≡ told read put (Ends (Alarmed alarm) after)
-Follows row before after read put taken place word TurnSteps = row ≡ told read put (Ends NoSteps after)
-Follows row before after read put taken place word (TurnSpoilt odd) = (row ≡ told read put OddStep) × (odd ≡ record { place = place; word = word })
-Follows row before after read put taken place word TurnDrum = IsCut row before read put taken
-Follows row before after read put taken place word TurnRead = IsCut row before read put taken
-Follows row before after read put taken place word TurnWrite = IsCut row before read put taken
+abbrev pub RefinesTurn : Row → (before after : Regs) → (read put taken : List ℕ) → (place word : ℕ) → Turn → Type 0
+RefinesTurn row before after read put taken place word TurnOn = row ≡ printing_row read put (On after)
+RefinesTurn row before after read put taken place word TurnEnded = row ≡ printing_row read put (Ends HasEnded after)
+RefinesTurn row before after read put taken place word (TurnAlarm alarm) = row ≡ printing_row read put (Ends (Alarmed alarm) after)
+RefinesTurn row before after read put taken place word TurnSteps = row ≡ printing_row read put (Ends NoSteps after)
+RefinesTurn row before after read put taken place word (TurnSpoilt odd) = (row ≡ printing_row read put OddStep)
+    × (odd ≡ record { place = place; word = word })
+RefinesTurn row before after read put taken place word TurnDrum = IsCut row before read put taken
+RefinesTurn row before after read put taken place word TurnRead = IsCut row before read put taken
+RefinesTurn row before after read put taken place word TurnWrite = IsCut row before read put taken
 
 -- what comes of an order at a place, with its word, that doesn't let the run go on
-abbrev pub turned : Quit → (place word : ℕ) → Turn
-turned (Missed Drum) place word = TurnDrum
-turned (Missed (Stopped Ended)) place word = TurnEnded
-turned (Missed (Stopped (Alarm alarm))) place word = TurnAlarm alarm
-turned (Missed (Stopped Steps)) place word = TurnSteps
-turned (Missed (Stopped Odd)) place word = TurnSpoilt (record { place = place; word = word })
-turned Read place word = TurnRead
-turned Write place word = TurnWrite
+abbrev pub turn_of_stop : Quit → (place word : ℕ) → Turn
+turn_of_stop (Missed Drum) place word = TurnDrum
+turn_of_stop (Missed (Stopped Ended)) place word = TurnEnded
+turn_of_stop (Missed (Stopped (Alarm alarm))) place word = TurnAlarm alarm
+turn_of_stop (Missed (Stopped Steps)) place word = TurnSteps
+turn_of_stop (Missed (Stopped Odd)) place word = TurnSpoilt (record { place = place; word = word })
+turn_of_stop Read place word = TurnRead
+turn_of_stop Write place word = TurnWrite

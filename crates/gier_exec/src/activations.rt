@@ -1,17 +1,18 @@
 // The activations of procedures and evaluations: entering one that was found, and the orders that leave one.
-ghost use Rattle.std.specs.Prelude.{◌≡◌, ◌≢◌, ◌+◌, ◌-◌, ◌<◌, ◌≤◌, ◌^◌, ◌&&◌, ℕ, true, nat_le, List, IfOk, Ok, Err, OnOk, length, slice_index, if◌then◌else◌};
+ghost use Rattle.std.specs.Prelude.{◌≡◌, ◌≢◌, ◌+◌, ◌-◌, ◌<◌, ◌≤◌, ◌^◌, ◌&&◌, ℕ, true, nat_le, List, IfOk, Ok, Err, OnOk, length};
+ghost use Rattle.std.specs.Prelude.{slice_index, if◌then◌else◌};
 ghost use Rattle.gier_word.specs.declared.alarm.Alarm.TheVariants.{Assignment};
 ghost use Rattle.gier_order.specs.declared.operation.Operation.TheVariants.{Return, Back, Give};
 ghost use Rattle.gier_order.specs.Flat.Row.{Row, needs};
 ghost use Rattle.gier_order.specs.Flat.Rows.{effect, leaves, local as local_row};
 ghost use Rattle.gier_names.specs.Evaluations.{number_of};
 ghost use Rattle.gier_exec.specs.Rows.{regs_of};
-ghost use Rattle.gier_exec.specs.Following.{Comes, Gets, can_return};
+ghost use Rattle.gier_exec.specs.Following.{RefinesJump, RefinesValue, can_return};
 ghost use Rattle.gier_frames.specs.State.{IsKept};
 ghost use Rattle.gier_exec.specs.Finding.{IsFound};
-ghost use Rattle.gier_exec.specs.Beginning.{beginning};
-ghost use Rattle.gier_exec.specs.Registers.{Registers, Keeps, Goes};
-ghost use Rattle.gier_exec.specs.Calling.{entering, IsCallable};
+ghost use Rattle.gier_exec.specs.Beginning.{evaluation_row};
+ghost use Rattle.gier_exec.specs.Registers.{Registers, PreservesPlace, Progresses};
+ghost use Rattle.gier_exec.specs.Calling.{entry_row, IsCallable};
 ghost use Rattle.gier_order.specs.Codes.{IsOrder};
 ghost use Rattle.gier_exec.specs.declared.stop.Stop.TheVariants.{Odd};
 
@@ -69,10 +70,11 @@ pub(crate) fn enter_procedure(
     requires place { m.old.place < words }
     requires kept { IsKept frames.old }
     ensures row { (code input : List ℕ) → frames.old.entered ≡ true → IsCallable entry
-        → Comes (entering code (length frames.old.words) (regs_of m.old frames.old input) entry) (regs_of m.new frames.new input)
+        → RefinesJump (entry_row code (length frames.old.words) (regs_of m.old frames.old input) entry)
+        (regs_of m.new frames.new input)
         result }
-    ensures keeps { Keeps m.old m.new }
-    ensures goes { IfOk result (λ at. Goes words m.old at m.new) }
+    ensures keeps { PreservesPlace m.old m.new }
+    ensures goes { IfOk result (λ at. Progresses words m.old at m.new) }
     ensures size { length frames.new.words ≡ length frames.old.words }
     ensures odd { result ≡ Err Odd → (m.new ≡ m.old) × (frames.new ≡ frames.old) }
 {
@@ -120,10 +122,11 @@ pub(crate) fn enter_evaluation(
     requires place { m.old.place < words }
     requires kept { IsKept frames.old }
     ensures row { (code input : List ℕ) → frames.old.entered ≡ true
-        → Comes (beginning code (length frames.old.words) (regs_of m.old frames.old input) found) (regs_of m.new frames.new input)
+        → RefinesJump (evaluation_row code (length frames.old.words) (regs_of m.old frames.old input) found)
+        (regs_of m.new frames.new input)
         result }
-    ensures keeps { Keeps m.old m.new }
-    ensures goes { IfOk result (λ at. Goes words m.old at m.new) }
+    ensures keeps { PreservesPlace m.old m.new }
+    ensures goes { IfOk result (λ at. Progresses words m.old at m.new) }
     ensures size { length frames.new.words ≡ length frames.old.words }
     ensures odd { result ≡ Err Odd → (m.new ≡ m.old) × (frames.new ≡ frames.old) }
 {
@@ -153,7 +156,7 @@ fn pay_for(m: &mut Machine, alarm: Alarm)
     requires { 0 < m.old.steps }
     ensures entered { alarm ≡ Assignment → m.new ≡ record m.old { steps = m.old.steps - 1; depth = m.old.depth + 1 } }
     ensures paid { alarm ≢ Assignment → m.new ≡ record m.old { steps = m.old.steps - 1 } }
-    ensures keeps { Keeps m.old m.new }
+    ensures keeps { PreservesPlace m.old m.new }
 {
     match alarm {
         Alarm::Assignment => m.enter(),
@@ -169,10 +172,10 @@ pub(crate) fn leave_procedure(
     words: u32,
 ) -> Result<u32, Stop>
     ensures row { (code input : List ℕ) (l : ℕ) → frames.old.entered ≡ true → length code ≡ words
-        → Comes (effect code (length frames.old.words) (regs_of m.old frames.old input) Return l kind)
+        → RefinesJump (effect code (length frames.old.words) (regs_of m.old frames.old input) Return l kind)
         (regs_of m.new frames.new input) result }
-    ensures keeps { Keeps m.old m.new }
-    ensures goes { IfOk result (λ at. Goes words m.old at m.new) }
+    ensures keeps { PreservesPlace m.old m.new }
+    ensures goes { IfOk result (λ at. Progresses words m.old at m.new) }
     ensures size { length frames.new.words ≡ length frames.old.words }
     ensures odd { result ≡ Err Odd → (m.new ≡ m.old) × (frames.new ≡ frames.old) }
 {
@@ -196,10 +199,11 @@ pub(crate) fn leave_evaluation(
     words: u32,
 ) -> Result<u32, Stop>
     ensures row { (code input : List ℕ) (l a : ℕ) → frames.old.entered ≡ true → length code ≡ words
-        → Comes (effect code (length frames.old.words) (regs_of m.old frames.old input) Back l a) (regs_of m.new frames.new input)
+        → RefinesJump (effect code (length frames.old.words) (regs_of m.old frames.old input) Back l a)
+        (regs_of m.new frames.new input)
         result }
-    ensures keeps { Keeps m.old m.new }
-    ensures goes { IfOk result (λ at. Goes words m.old at m.new) }
+    ensures keeps { PreservesPlace m.old m.new }
+    ensures goes { IfOk result (λ at. Progresses words m.old at m.new) }
     ensures size { length frames.new.words ≡ length frames.old.words }
     ensures odd { result ≡ Err Odd → (m.new ≡ m.old) × (frames.new ≡ frames.old) }
 {
@@ -216,10 +220,11 @@ pub(crate) fn leave_evaluation(
 #[tactic(auto, using(crate::proofs::MeasureFalls::paid_falls))]
 pub(crate) fn leave_variable(m: &mut Machine, frames: &mut Frames, words: u32) -> Result<u32, Stop>
     ensures row { (code input : List ℕ) (l a : ℕ) → frames.old.entered ≡ true → length code ≡ words
-        → Comes (effect code (length frames.old.words) (regs_of m.old frames.old input) Give l a) (regs_of m.new frames.new input)
+        → RefinesJump (effect code (length frames.old.words) (regs_of m.old frames.old input) Give l a)
+        (regs_of m.new frames.new input)
         result }
-    ensures keeps { Keeps m.old m.new }
-    ensures goes { IfOk result (λ at. Goes words m.old at m.new) }
+    ensures keeps { PreservesPlace m.old m.new }
+    ensures goes { IfOk result (λ at. Progresses words m.old at m.new) }
     ensures size { length frames.new.words ≡ length frames.old.words }
     ensures odd { result ≡ Err Odd → (m.new ≡ m.old) × (frames.new ≡ frames.old) }
 {
@@ -240,7 +245,7 @@ pub(crate) fn leave_variable(m: &mut Machine, frames: &mut Frames, words: u32) -
 /// What is wanted of the current activation; odd where it isn't an evaluation's.
 pub(crate) fn wanted_now(frames: &Frames) -> Result<Wanted, Stop>
     ensures row { (code input : List ℕ) (m : Registers) (go : ℕ → Row) → frames.now.entered ≡ true
-        → Gets (local_row code (length frames.now.words) (regs_of m frames.now input) 4
+        → RefinesValue (local_row code (length frames.now.words) (regs_of m frames.now input) 4
         (λ wanted. needs (nat_le 1 wanted && nat_le wanted 3) (go wanted))) (λ wanted. go (number_of wanted)) result }
 {
     match local(frames, WANTED) {
@@ -257,10 +262,11 @@ pub(crate) fn wanted_now(frames: &Frames) -> Result<Wanted, Stop>
 fn leave(m: &mut Machine, frames: &mut Frames, value: u64, words: u32) -> Result<u32, Stop>
     requires { value < 2 ^ 40 }
     ensures row { (code input : List ℕ) → frames.old.entered ≡ true → length code ≡ words
-        → Comes (leaves code (length frames.old.words) (regs_of m.old frames.old input) value) (regs_of m.new frames.new input)
+        → RefinesJump (leaves code (length frames.old.words) (regs_of m.old frames.old input) value)
+        (regs_of m.new frames.new input)
         result }
-    ensures keeps { Keeps m.old m.new }
-    ensures goes { IfOk result (λ at. Goes words m.old at m.new) }
+    ensures keeps { PreservesPlace m.old m.new }
+    ensures goes { IfOk result (λ at. Progresses words m.old at m.new) }
     ensures size { length frames.new.words ≡ length frames.old.words }
     ensures odd { result ≡ Err Odd → (m.new ≡ m.old) × (frames.new ≡ frames.old) }
 {

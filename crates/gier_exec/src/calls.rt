@@ -8,26 +8,25 @@ ghost use Rattle.gier_order.specs.Flat.Kinds.{Handed, Bare, Kinded, Neither, for
 ghost use Rattle.gier_order.specs.declared.order.Order.{Order};
 ghost use Rattle.gier_order.specs.declared.operation.Operation.TheVariants.{Call, Formal, CallF};
 ghost use Rattle.gier_exec.specs.Rows.{regs_of, code_in};
-ghost use Rattle.gier_exec.specs.Searching.{Searches, Acts};
-ghost use Rattle.gier_exec.specs.Calling.{entering, IsHead, IsCallable, formals_in};
+ghost use Rattle.gier_exec.specs.Searching.{RefinesSearch, RefinesReading};
+ghost use Rattle.gier_exec.specs.Calling.{entry_row, IsHead, IsCallable, formals_in};
 ghost use Rattle.gier_exec.specs.Numbers.{is_call};
 ghost use Rattle.gier_word.specs.Cause.{HasRisen};
 ghost use Rattle.gier_order.specs.Codes.{IsOrder};
-ghost use Rattle.gier_exec.specs.Registers.{Keeps, Goes};
-ghost use Rattle.gier_exec.specs.Reading.{CanRead, Reads, seen};
+ghost use Rattle.gier_exec.specs.Registers.{PreservesPlace, Progresses};
+ghost use Rattle.gier_exec.specs.Reading.{CanRead, Reads, SamePager, pager_view};
 ghost use Rattle.gier_exec.specs.declared.stop.Miss.TheVariants.{Drum as DrumFailed, Stop as Stopped};
 ghost use Rattle.gier_exec.specs.declared.stop.Stop.TheVariants.{Odd};
 
 use crate::Machine;
 use crate::activations::{Entry, enter_procedure};
 use crate::frame::{MOST_COUNT, place_of, read};
+use crate::pager::Pager;
 use crate::reading::{fetch, fetch_only, fetch_order};
 use crate::stop::{Miss, ODD, Stop};
-use gier_best::Trace;
 use gier_drum::Drum;
 use gier_frames::Frames;
-use gier_order::{Object, Operation, Order, Recent};
-use gier_places::Places;
+use gier_order::{Object, Operation, Order};
 use gier_word::Alarm;
 
 // The most formals of a procedure whose actuals are compared when it is called.
@@ -41,34 +40,31 @@ pub(crate) fn call<D: Drum>(
     m: &mut Machine,
     frames: &mut Frames,
     object: &Object,
-    drum: &mut D,
-    places: &mut Places,
-    recent: &mut Recent,
-    trace: &mut Trace,
+    pager: &mut Pager<D>,
     operation: Operation,
     order: Order,
 ) -> Result<u32, Miss>
     requires order { IsOrder order }
     requires place { m.old.place < object.now.words }
     requires kept { IsKept frames.old }
-    requires can { CanRead 3 object.now (seen D.room D.tracks D.journal D.faults drum.old places.old recent.old trace.old) }
-    ensures row { (tracks : List (List ℕ)) (input : List ℕ) → D.tracks drum.old ≡ Some tracks → Agrees (Some tracks) places.old.held
+    requires can { CanRead 3 object.now (pager_view D.room D.tracks D.journal D.faults pager.old) }
+    ensures row { (tracks : List (List ℕ)) (input : List ℕ) → D.tracks pager.old.drum.now ≡ Some tracks
+        → Agrees (Some tracks) pager.old.places.now.held
         → frames.old.entered ≡ true → is_call operation ≡ true
-        → Acts object.now (seen D.room D.tracks D.journal D.faults drum.old places.old recent.old trace.old)
-        (seen D.room D.tracks D.journal D.faults drum.new places.new recent.new trace.new)
+        → RefinesReading object.now (pager_view D.room D.tracks D.journal D.faults pager.old)
+        (pager_view D.room D.tracks D.journal D.faults pager.new)
         (effect (code_in tracks object.now) (length frames.old.words) (regs_of m.old frames.old input) operation order.level
         order.address) (regs_of m.new frames.new input) result }
-    ensures keeps { Keeps m.old m.new }
-    ensures goes { IfOk result (λ next. Goes object.now.words m.old next m.new) }
+    ensures keeps { PreservesPlace m.old m.new }
+    ensures goes { IfOk result (λ next. Progresses object.now.words m.old next m.new) }
     ensures size { length frames.new.words ≡ length frames.old.words }
-    ensures reads { Reads 3 object.now (seen D.room D.tracks D.journal D.faults drum.old places.old recent.old trace.old)
-        (seen D.room D.tracks D.journal D.faults drum.new places.new recent.new trace.new) }
-    ensures failed { result ≡ Err DrumFailed → HasRisen (D.faults drum.old) (D.faults drum.new) }
+    ensures same_references { SamePager pager.old pager.new }
+    ensures reads { Reads 3 object.now (pager_view D.room D.tracks D.journal D.faults pager.old)
+        (pager_view D.room D.tracks D.journal D.faults pager.new) }
+    ensures failed { result ≡ Err DrumFailed → HasRisen (D.faults pager.old.drum.now) (D.faults pager.new.drum.now) }
     ensures odd { result ≡ Err (Stopped Odd) → (m.new ≡ m.old) × (frames.new ≡ frames.old) }
 {
-    let entry = match find(
-        m, frames, object, drum, places, recent, trace, operation, order,
-    ) {
+    let entry = match find(m, frames, object, pager, operation, order) {
         Ok(entry) => entry,
         Err(miss) => return Err(miss),
     };
@@ -83,32 +79,31 @@ fn find<D: Drum>(
     m: &Machine,
     frames: &Frames,
     object: &Object,
-    drum: &mut D,
-    places: &mut Places,
-    recent: &mut Recent,
-    trace: &mut Trace,
+    pager: &mut Pager<D>,
     operation: Operation,
     order: Order,
 ) -> Result<Entry, Miss>
     requires order { IsOrder order }
-    requires can { CanRead 3 object.now (seen D.room D.tracks D.journal D.faults drum.old places.old recent.old trace.old) }
-    ensures row { (tracks : List (List ℕ)) (input : List ℕ) → D.tracks drum.old ≡ Some tracks → Agrees (Some tracks) places.old.held
+    requires can { CanRead 3 object.now (pager_view D.room D.tracks D.journal D.faults pager.old) }
+    ensures row { (tracks : List (List ℕ)) (input : List ℕ) → D.tracks pager.old.drum.now ≡ Some tracks
+        → Agrees (Some tracks) pager.old.places.now.held
         → frames.now.entered ≡ true → is_call operation ≡ true
-        → Searches object.now (seen D.room D.tracks D.journal D.faults drum.old places.old recent.old trace.old)
-        (seen D.room D.tracks D.journal D.faults drum.new places.new recent.new trace.new)
+        → RefinesSearch object.now (pager_view D.room D.tracks D.journal D.faults pager.old)
+        (pager_view D.room D.tracks D.journal D.faults pager.new)
         (effect (code_in tracks object.now) (length frames.now.words) (regs_of m.now frames.now input) operation order.level
         order.address) (regs_of m.now frames.now input)
-        (entering (code_in tracks object.now) (length frames.now.words) (regs_of m.now frames.now input)) result }
+        (entry_row (code_in tracks object.now) (length frames.now.words) (regs_of m.now frames.now input)) result }
     ensures found { IfOk result (λ entry. entry.next < object.now.words) }
     ensures callable { IfOk result IsCallable }
-    ensures reads { Reads 3 object.now (seen D.room D.tracks D.journal D.faults drum.old places.old recent.old trace.old)
-        (seen D.room D.tracks D.journal D.faults drum.new places.new recent.new trace.new) }
-    ensures failed { result ≡ Err DrumFailed → HasRisen (D.faults drum.old) (D.faults drum.new) }
+    ensures same_references { SamePager pager.old pager.new }
+    ensures reads { Reads 3 object.now (pager_view D.room D.tracks D.journal D.faults pager.old)
+        (pager_view D.room D.tracks D.journal D.faults pager.new) }
+    ensures failed { result ≡ Err DrumFailed → HasRisen (D.faults pager.old.drum.now) (D.faults pager.new.drum.now) }
 {
     match operation {
-        Operation::Call => find_procedure(m, frames, object, drum, places, recent, trace, order),
-        Operation::Formal => find_formal(m, frames, object, drum, places, recent, trace, order),
-        _ => find_compared(m, frames, object, drum, places, recent, trace, order),
+        Operation::Call => find_procedure(m, frames, object, pager, order),
+        Operation::Formal => find_formal(m, frames, object, pager, order),
+        _ => find_compared(m, frames, object, pager, order),
     }
 }
 
@@ -117,35 +112,27 @@ fn find_procedure<D: Drum>(
     m: &Machine,
     frames: &Frames,
     object: &Object,
-    drum: &mut D,
-    places: &mut Places,
-    recent: &mut Recent,
-    trace: &mut Trace,
+    pager: &mut Pager<D>,
     order: Order,
 ) -> Result<Entry, Miss>
     requires order { IsOrder order }
-    requires can { CanRead 3 object.now (seen D.room D.tracks D.journal D.faults drum.old places.old recent.old trace.old) }
-    ensures row { (tracks : List (List ℕ)) (input : List ℕ) → D.tracks drum.old ≡ Some tracks → Agrees (Some tracks) places.old.held
+    requires can { CanRead 3 object.now (pager_view D.room D.tracks D.journal D.faults pager.old) }
+    ensures row { (tracks : List (List ℕ)) (input : List ℕ) → D.tracks pager.old.drum.now ≡ Some tracks
+        → Agrees (Some tracks) pager.old.places.now.held
         → frames.now.entered ≡ true
-        → Searches object.now (seen D.room D.tracks D.journal D.faults drum.old places.old recent.old trace.old)
-        (seen D.room D.tracks D.journal D.faults drum.new places.new recent.new trace.new)
+        → RefinesSearch object.now (pager_view D.room D.tracks D.journal D.faults pager.old)
+        (pager_view D.room D.tracks D.journal D.faults pager.new)
         (effect (code_in tracks object.now) (length frames.now.words) (regs_of m.now frames.now input) Call order.level
         order.address) (regs_of m.now frames.now input)
-        (entering (code_in tracks object.now) (length frames.now.words) (regs_of m.now frames.now input)) result }
+        (entry_row (code_in tracks object.now) (length frames.now.words) (regs_of m.now frames.now input)) result }
     ensures found { IfOk result (λ entry. entry.next < object.now.words) }
     ensures callable { IfOk result IsCallable }
-    ensures reads { Reads 3 object.now (seen D.room D.tracks D.journal D.faults drum.old places.old recent.old trace.old)
-        (seen D.room D.tracks D.journal D.faults drum.new places.new recent.new trace.new) }
-    ensures failed { result ≡ Err DrumFailed → HasRisen (D.faults drum.old) (D.faults drum.new) }
+    ensures same_references { SamePager pager.old pager.new }
+    ensures reads { Reads 3 object.now (pager_view D.room D.tracks D.journal D.faults pager.old)
+        (pager_view D.room D.tracks D.journal D.faults pager.new) }
+    ensures failed { result ≡ Err DrumFailed → HasRisen (D.faults pager.old.drum.now) (D.faults pager.new.drum.now) }
 {
-    let mut entry = match find_head(
-        object,
-        drum,
-        places,
-        recent,
-        trace,
-        u64::from(order.address),
-    ) {
+    let mut entry = match find_head(object, pager, u64::from(order.address)) {
         Ok(entry) => entry,
         Err(miss) => return Err(miss),
     };
@@ -167,74 +154,57 @@ fn actuals_from(count: u32, r: u64) -> u64
 }
 
 // The procedure at an address, whose PROC is still to be read.
-fn find_head<D: Drum>(
-    object: &Object,
-    drum: &mut D,
-    places: &mut Places,
-    recent: &mut Recent,
-    trace: &mut Trace,
-    address: u64,
-) -> Result<Entry, Miss>
-    requires can { CanRead 2 object.now (seen D.room D.tracks D.journal D.faults drum.old places.old recent.old trace.old) }
+fn find_head<D: Drum>(object: &Object, pager: &mut Pager<D>, address: u64) -> Result<Entry, Miss>
+    requires can { CanRead 2 object.now (pager_view D.room D.tracks D.journal D.faults pager.old) }
     ensures row { (tracks : List (List ℕ)) (size : ℕ) (regs : Regs) (go : Order → ℕ → Row) (made : ℕ → ℕ → ℕ → Row)
-        → ((head : Order) (count : ℕ) → go head count ≡ made head.level head.address count) → D.tracks drum.old ≡ Some tracks
-        → Agrees (Some tracks) places.old.held
-        → Searches object.now (seen D.room D.tracks D.journal D.faults drum.old places.old recent.old trace.old)
-        (seen D.room D.tracks D.journal D.faults drum.new places.new recent.new trace.new)
+        → ((head : Order) (count : ℕ) → go head count ≡ made head.level head.address count)
+        → D.tracks pager.old.drum.now ≡ Some tracks
+        → Agrees (Some tracks) pager.old.places.now.held
+        → RefinesSearch object.now (pager_view D.room D.tracks D.journal D.faults pager.old)
+        (pager_view D.room D.tracks D.journal D.faults pager.new)
         (reads_procedure (code_in tracks object.now) size regs address go) regs
         (λ entry. made entry.level entry.room entry.count) result }
     ensures head { IfOk result (λ entry. IsHead entry address) }
     ensures found { IfOk result (λ entry. entry.next < object.now.words) }
     ensures few { IfOk result (λ entry. entry.count ≤ 511) }
-    ensures reads { Reads 2 object.now (seen D.room D.tracks D.journal D.faults drum.old places.old recent.old trace.old)
-        (seen D.room D.tracks D.journal D.faults drum.new places.new recent.new trace.new) }
-    ensures failed { result ≡ Err DrumFailed → HasRisen (D.faults drum.old) (D.faults drum.new) }
+    ensures same_references { SamePager pager.old pager.new }
+    ensures reads { Reads 2 object.now (pager_view D.room D.tracks D.journal D.faults pager.old)
+        (pager_view D.room D.tracks D.journal D.faults pager.new) }
+    ensures failed { result ≡ Err DrumFailed → HasRisen (D.faults pager.old.drum.now) (D.faults pager.new.drum.now) }
 {
-    let head = match fetch_only(
-        object,
-        drum,
-        places,
-        recent,
-        trace,
-        address,
-        Operation::Proc,
-    ) {
+    let head = match fetch_only(object, pager, address, Operation::Proc) {
         Ok(head) => head,
         Err(miss) => return Err(miss),
     };
-    find_entry(
-        object, drum, places, recent, trace, head, address, MOST_COUNT,
-    )
+    find_entry(object, pager, head, address, MOST_COUNT)
 }
 
 // The procedure whose PROC was read at an address, and behind it a word that may be so much.
 fn find_entry<D: Drum>(
     object: &Object,
-    drum: &mut D,
-    places: &mut Places,
-    recent: &mut Recent,
-    trace: &mut Trace,
+    pager: &mut Pager<D>,
     head: Order,
     address: u64,
     most: u32,
 ) -> Result<Entry, Miss>
     requires within { address < object.now.words }
-    requires can { CanRead 1 object.now (seen D.room D.tracks D.journal D.faults drum.old places.old recent.old trace.old) }
-    ensures row { (tracks : List (List ℕ)) (size : ℕ) (regs : Regs) (go : ℕ → Row) → D.tracks drum.old ≡ Some tracks
-        → Agrees (Some tracks) places.old.held
-        → Searches object.now (seen D.room D.tracks D.journal D.faults drum.old places.old recent.old trace.old)
-        (seen D.room D.tracks D.journal D.faults drum.new places.new recent.new trace.new)
+    requires can { CanRead 1 object.now (pager_view D.room D.tracks D.journal D.faults pager.old) }
+    ensures row { (tracks : List (List ℕ)) (size : ℕ) (regs : Regs) (go : ℕ → Row) → D.tracks pager.old.drum.now ≡ Some tracks
+        → Agrees (Some tracks) pager.old.places.now.held
+        → RefinesSearch object.now (pager_view D.room D.tracks D.journal D.faults pager.old)
+        (pager_view D.room D.tracks D.journal D.faults pager.new)
         (reads_count (code_in tracks object.now) size regs address most go) regs (λ entry. go entry.count) result }
     ensures head { IfOk result (λ entry. IsHead entry address) }
     ensures level { IfOk result (λ entry. entry.level ≡ head.level) }
     ensures room { IfOk result (λ entry. entry.room ≡ head.address) }
     ensures found { IfOk result (λ entry. entry.next < object.now.words) }
     ensures few { IfOk result (λ entry. entry.count ≤ most) }
-    ensures reads { Reads 1 object.now (seen D.room D.tracks D.journal D.faults drum.old places.old recent.old trace.old)
-        (seen D.room D.tracks D.journal D.faults drum.new places.new recent.new trace.new) }
-    ensures failed { result ≡ Err DrumFailed → HasRisen (D.faults drum.old) (D.faults drum.new) }
+    ensures same_references { SamePager pager.old pager.new }
+    ensures reads { Reads 1 object.now (pager_view D.room D.tracks D.journal D.faults pager.old)
+        (pager_view D.room D.tracks D.journal D.faults pager.new) }
+    ensures failed { result ≡ Err DrumFailed → HasRisen (D.faults pager.old.drum.now) (D.faults pager.new.drum.now) }
 {
-    let count = match fetch(object, drum, places, recent, trace, address + 1) {
+    let count = match fetch(object, pager, address + 1) {
         Ok(count) => count,
         Err(miss) => return Err(miss),
     };
@@ -257,26 +227,25 @@ fn find_formal<D: Drum>(
     m: &Machine,
     frames: &Frames,
     object: &Object,
-    drum: &mut D,
-    places: &mut Places,
-    recent: &mut Recent,
-    trace: &mut Trace,
+    pager: &mut Pager<D>,
     order: Order,
 ) -> Result<Entry, Miss>
     requires order { IsOrder order }
-    requires can { CanRead 3 object.now (seen D.room D.tracks D.journal D.faults drum.old places.old recent.old trace.old) }
-    ensures row { (tracks : List (List ℕ)) (input : List ℕ) → D.tracks drum.old ≡ Some tracks → Agrees (Some tracks) places.old.held
+    requires can { CanRead 3 object.now (pager_view D.room D.tracks D.journal D.faults pager.old) }
+    ensures row { (tracks : List (List ℕ)) (input : List ℕ) → D.tracks pager.old.drum.now ≡ Some tracks
+        → Agrees (Some tracks) pager.old.places.now.held
         → frames.now.entered ≡ true
-        → Searches object.now (seen D.room D.tracks D.journal D.faults drum.old places.old recent.old trace.old)
-        (seen D.room D.tracks D.journal D.faults drum.new places.new recent.new trace.new)
+        → RefinesSearch object.now (pager_view D.room D.tracks D.journal D.faults pager.old)
+        (pager_view D.room D.tracks D.journal D.faults pager.new)
         (effect (code_in tracks object.now) (length frames.now.words) (regs_of m.now frames.now input) Formal order.level
         order.address) (regs_of m.now frames.now input)
-        (entering (code_in tracks object.now) (length frames.now.words) (regs_of m.now frames.now input)) result }
+        (entry_row (code_in tracks object.now) (length frames.now.words) (regs_of m.now frames.now input)) result }
     ensures found { IfOk result (λ entry. entry.next < object.now.words) }
     ensures callable { IfOk result IsCallable }
-    ensures reads { Reads 3 object.now (seen D.room D.tracks D.journal D.faults drum.old places.old recent.old trace.old)
-        (seen D.room D.tracks D.journal D.faults drum.new places.new recent.new trace.new) }
-    ensures failed { result ≡ Err DrumFailed → HasRisen (D.faults drum.old) (D.faults drum.new) }
+    ensures same_references { SamePager pager.old pager.new }
+    ensures reads { Reads 3 object.now (pager_view D.room D.tracks D.journal D.faults pager.old)
+        (pager_view D.room D.tracks D.journal D.faults pager.new) }
+    ensures failed { result ≡ Err DrumFailed → HasRisen (D.faults pager.old.drum.now) (D.faults pager.new.drum.now) }
 {
     let place = match place_of(frames, order.level, order.address) {
         Ok(place) => place,
@@ -286,7 +255,7 @@ fn find_formal<D: Drum>(
         Ok(address) => address,
         Err(stop) => return Err(Miss::Stop(stop)),
     };
-    let mut entry = match find_bare(object, drum, places, recent, trace, address) {
+    let mut entry = match find_bare(object, pager, address) {
         Ok(entry) => entry,
         Err(miss) => return Err(miss),
     };
@@ -300,38 +269,30 @@ fn find_formal<D: Drum>(
 }
 
 // The procedure at an address that has no formals; the alarm `parameters` where it has some.
-fn find_bare<D: Drum>(
-    object: &Object,
-    drum: &mut D,
-    places: &mut Places,
-    recent: &mut Recent,
-    trace: &mut Trace,
-    address: u64,
-) -> Result<Entry, Miss>
-    requires can { CanRead 2 object.now (seen D.room D.tracks D.journal D.faults drum.old places.old recent.old trace.old) }
-    ensures row { (tracks : List (List ℕ)) (size : ℕ) (regs : Regs) (place : ℕ) → D.tracks drum.old ≡ Some tracks
-        → Agrees (Some tracks) places.old.held
-        → Searches object.now (seen D.room D.tracks D.journal D.faults drum.old places.old recent.old trace.old)
-        (seen D.room D.tracks D.journal D.faults drum.new places.new recent.new trace.new)
+fn find_bare<D: Drum>(object: &Object, pager: &mut Pager<D>, address: u64) -> Result<Entry, Miss>
+    requires can { CanRead 2 object.now (pager_view D.room D.tracks D.journal D.faults pager.old) }
+    ensures row { (tracks : List (List ℕ)) (size : ℕ) (regs : Regs) (place : ℕ) → D.tracks pager.old.drum.now ≡ Some tracks
+        → Agrees (Some tracks) pager.old.places.now.held
+        → RefinesSearch object.now (pager_view D.room D.tracks D.journal D.faults pager.old)
+        (pager_view D.room D.tracks D.journal D.faults pager.new)
         (reads_order (code_in tracks object.now) size regs address
         (λ head. calls_bare (code_in tracks object.now) size regs address place head (formals_handed head))) regs
         (λ entry. word_at (code_in tracks object.now) size regs place
-        (λ outer. entering (code_in tracks object.now) size regs (record entry { outer = outer }))) result }
+        (λ outer. entry_row (code_in tracks object.now) size regs (record entry { outer = outer }))) result }
     ensures from { IfOk result (λ entry. entry.from ≡ 0) }
     ensures found { IfOk result (λ entry. entry.next < object.now.words) }
     ensures few { IfOk result (λ entry. entry.count ≤ 511) }
-    ensures reads { Reads 2 object.now (seen D.room D.tracks D.journal D.faults drum.old places.old recent.old trace.old)
-        (seen D.room D.tracks D.journal D.faults drum.new places.new recent.new trace.new) }
-    ensures failed { result ≡ Err DrumFailed → HasRisen (D.faults drum.old) (D.faults drum.new) }
+    ensures same_references { SamePager pager.old pager.new }
+    ensures reads { Reads 2 object.now (pager_view D.room D.tracks D.journal D.faults pager.old)
+        (pager_view D.room D.tracks D.journal D.faults pager.new) }
+    ensures failed { result ≡ Err DrumFailed → HasRisen (D.faults pager.old.drum.now) (D.faults pager.new.drum.now) }
 {
-    let head = match fetch_order(object, drum, places, recent, trace, address) {
+    let head = match fetch_order(object, pager, address) {
         Ok(head) => head,
         Err(miss) => return Err(miss),
     };
     match formals_of(head) {
-        Ok(None) => find_entry(
-            object, drum, places, recent, trace, head, address, NO_FORMALS,
-        ),
+        Ok(None) => find_entry(object, pager, head, address, NO_FORMALS),
         Ok(Some(_)) => Err(Miss::Stop(Stop::Alarm(Alarm::Parameters))),
         Err(stop) => Err(Miss::Stop(stop)),
     }
@@ -356,28 +317,27 @@ pub(crate) fn formals_of(head: Order) -> Result<Option<u8>, Stop>
 /// The KINDS at an address, with its number of formals from 1 to 80.
 pub(crate) fn fetch_kinds<D: Drum>(
     object: &Object,
-    drum: &mut D,
-    places: &mut Places,
-    recent: &mut Recent,
-    trace: &mut Trace,
+    pager: &mut Pager<D>,
     address: u64,
 ) -> Result<Order, Miss>
-    requires can { CanRead 1 object.now (seen D.room D.tracks D.journal D.faults drum.old places.old recent.old trace.old) }
+    requires can { CanRead 1 object.now (pager_view D.room D.tracks D.journal D.faults pager.old) }
     ensures row { (tracks : List (List ℕ)) (size : ℕ) (regs : Regs) (go : Order → Handed → Row)
-        → ((head : Order) → go head Bare ≡ odd) → ((head : Order) → go head Neither ≡ odd) → D.tracks drum.old ≡ Some tracks
-        → Agrees (Some tracks) places.old.held
-        → Searches object.now (seen D.room D.tracks D.journal D.faults drum.old places.old recent.old trace.old)
-        (seen D.room D.tracks D.journal D.faults drum.new places.new recent.new trace.new)
+        → ((head : Order) → go head Bare ≡ odd) → ((head : Order) → go head Neither ≡ odd)
+        → D.tracks pager.old.drum.now ≡ Some tracks
+        → Agrees (Some tracks) pager.old.places.now.held
+        → RefinesSearch object.now (pager_view D.room D.tracks D.journal D.faults pager.old)
+        (pager_view D.room D.tracks D.journal D.faults pager.new)
         (reads_order (code_in tracks object.now) size regs address (λ head. go head (formals_handed head))) regs
         (λ kinds. go kinds (Kinded kinds.level)) result }
     ensures order { IfOk result IsOrder }
     ensures some { IfOk result (λ order. 1 ≤ order.level) }
     ensures few { IfOk result (λ order. order.level ≤ 80) }
-    ensures reads { Reads 1 object.now (seen D.room D.tracks D.journal D.faults drum.old places.old recent.old trace.old)
-        (seen D.room D.tracks D.journal D.faults drum.new places.new recent.new trace.new) }
-    ensures failed { result ≡ Err DrumFailed → HasRisen (D.faults drum.old) (D.faults drum.new) }
+    ensures same_references { SamePager pager.old pager.new }
+    ensures reads { Reads 1 object.now (pager_view D.room D.tracks D.journal D.faults pager.old)
+        (pager_view D.room D.tracks D.journal D.faults pager.new) }
+    ensures failed { result ≡ Err DrumFailed → HasRisen (D.faults pager.old.drum.now) (D.faults pager.new.drum.now) }
 {
-    let head = match fetch_order(object, drum, places, recent, trace, address) {
+    let head = match fetch_order(object, pager, address) {
         Ok(head) => head,
         Err(miss) => return Err(miss),
     };
@@ -393,26 +353,25 @@ fn find_compared<D: Drum>(
     m: &Machine,
     frames: &Frames,
     object: &Object,
-    drum: &mut D,
-    places: &mut Places,
-    recent: &mut Recent,
-    trace: &mut Trace,
+    pager: &mut Pager<D>,
     order: Order,
 ) -> Result<Entry, Miss>
     requires order { IsOrder order }
-    requires can { CanRead 3 object.now (seen D.room D.tracks D.journal D.faults drum.old places.old recent.old trace.old) }
-    ensures row { (tracks : List (List ℕ)) (input : List ℕ) → D.tracks drum.old ≡ Some tracks → Agrees (Some tracks) places.old.held
+    requires can { CanRead 3 object.now (pager_view D.room D.tracks D.journal D.faults pager.old) }
+    ensures row { (tracks : List (List ℕ)) (input : List ℕ) → D.tracks pager.old.drum.now ≡ Some tracks
+        → Agrees (Some tracks) pager.old.places.now.held
         → frames.now.entered ≡ true
-        → Searches object.now (seen D.room D.tracks D.journal D.faults drum.old places.old recent.old trace.old)
-        (seen D.room D.tracks D.journal D.faults drum.new places.new recent.new trace.new)
+        → RefinesSearch object.now (pager_view D.room D.tracks D.journal D.faults pager.old)
+        (pager_view D.room D.tracks D.journal D.faults pager.new)
         (effect (code_in tracks object.now) (length frames.now.words) (regs_of m.now frames.now input) CallF order.level
         order.address) (regs_of m.now frames.now input)
-        (entering (code_in tracks object.now) (length frames.now.words) (regs_of m.now frames.now input)) result }
+        (entry_row (code_in tracks object.now) (length frames.now.words) (regs_of m.now frames.now input)) result }
     ensures found { IfOk result (λ entry. entry.next < object.now.words) }
     ensures callable { IfOk result IsCallable }
-    ensures reads { Reads 3 object.now (seen D.room D.tracks D.journal D.faults drum.old places.old recent.old trace.old)
-        (seen D.room D.tracks D.journal D.faults drum.new places.new recent.new trace.new) }
-    ensures failed { result ≡ Err DrumFailed → HasRisen (D.faults drum.old) (D.faults drum.new) }
+    ensures same_references { SamePager pager.old pager.new }
+    ensures reads { Reads 3 object.now (pager_view D.room D.tracks D.journal D.faults pager.old)
+        (pager_view D.room D.tracks D.journal D.faults pager.new) }
+    ensures failed { result ≡ Err DrumFailed → HasRisen (D.faults pager.old.drum.now) (D.faults pager.new.drum.now) }
 {
     let place = match place_of(frames, order.level, order.address) {
         Ok(place) => place,
@@ -422,7 +381,7 @@ fn find_compared<D: Drum>(
         Ok(address) => address,
         Err(stop) => return Err(Miss::Stop(stop)),
     };
-    let mut entry = match find_kinded(object, drum, places, recent, trace, address) {
+    let mut entry = match find_kinded(object, pager, address) {
         Ok(entry) => entry,
         Err(miss) => return Err(miss),
     };
@@ -437,42 +396,29 @@ fn find_compared<D: Drum>(
 }
 
 // The procedure that the KINDS at an address tells, with as many formals as it says.
-fn find_kinded<D: Drum>(
-    object: &Object,
-    drum: &mut D,
-    places: &mut Places,
-    recent: &mut Recent,
-    trace: &mut Trace,
-    address: u64,
-) -> Result<Entry, Miss>
-    requires can { CanRead 3 object.now (seen D.room D.tracks D.journal D.faults drum.old places.old recent.old trace.old) }
-    ensures row { (tracks : List (List ℕ)) (size : ℕ) (regs : Regs) (place : ℕ) → D.tracks drum.old ≡ Some tracks
-        → Agrees (Some tracks) places.old.held
-        → Searches object.now (seen D.room D.tracks D.journal D.faults drum.old places.old recent.old trace.old)
-        (seen D.room D.tracks D.journal D.faults drum.new places.new recent.new trace.new)
+fn find_kinded<D: Drum>(object: &Object, pager: &mut Pager<D>, address: u64) -> Result<Entry, Miss>
+    requires can { CanRead 3 object.now (pager_view D.room D.tracks D.journal D.faults pager.old) }
+    ensures row { (tracks : List (List ℕ)) (size : ℕ) (regs : Regs) (place : ℕ) → D.tracks pager.old.drum.now ≡ Some tracks
+        → Agrees (Some tracks) pager.old.places.now.held
+        → RefinesSearch object.now (pager_view D.room D.tracks D.journal D.faults pager.old)
+        (pager_view D.room D.tracks D.journal D.faults pager.new)
         (reads_order (code_in tracks object.now) size regs address
         (λ kinds. calls_kinded (code_in tracks object.now) size regs place kinds (formals_handed kinds))) regs
         (λ entry. word_at (code_in tracks object.now) size regs place
-        (λ outer. entering (code_in tracks object.now) size regs (record entry { outer = outer; from = regs.r }))) result }
+        (λ outer. entry_row (code_in tracks object.now) size regs (record entry { outer = outer; from = regs.r }))) result }
     ensures found { IfOk result (λ entry. entry.next < object.now.words) }
     ensures few { IfOk result (λ entry. entry.count ≤ 511) }
     ensures some { IfOk result (λ entry. 2 ≤ entry.count) }
-    ensures reads { Reads 3 object.now (seen D.room D.tracks D.journal D.faults drum.old places.old recent.old trace.old)
-        (seen D.room D.tracks D.journal D.faults drum.new places.new recent.new trace.new) }
-    ensures failed { result ≡ Err DrumFailed → HasRisen (D.faults drum.old) (D.faults drum.new) }
+    ensures same_references { SamePager pager.old pager.new }
+    ensures reads { Reads 3 object.now (pager_view D.room D.tracks D.journal D.faults pager.old)
+        (pager_view D.room D.tracks D.journal D.faults pager.new) }
+    ensures failed { result ≡ Err DrumFailed → HasRisen (D.faults pager.old.drum.now) (D.faults pager.new.drum.now) }
 {
-    let kinds = match fetch_kinds(object, drum, places, recent, trace, address) {
+    let kinds = match fetch_kinds(object, pager, address) {
         Ok(kinds) => kinds,
         Err(miss) => return Err(miss),
     };
-    let entry = match find_head(
-        object,
-        drum,
-        places,
-        recent,
-        trace,
-        u64::from(kinds.address),
-    ) {
+    let entry = match find_head(object, pager, u64::from(kinds.address)) {
         Ok(entry) => entry,
         Err(miss) => return Err(miss),
     };

@@ -9,13 +9,13 @@ ghost use Rattle.gier_order.specs.Flat.Rows.{effect, cell_pair, evaluates, switc
 ghost use Rattle.gier_exec.specs.Registers.{Registers};
 ghost use Rattle.gier_exec.specs.Rows.{regs_of, code_in};
 ghost use Rattle.gier_exec.specs.Numbers.{is_evaluation, is_choice};
-ghost use Rattle.gier_exec.specs.Following.{Comes, Gets};
-ghost use Rattle.gier_exec.specs.Searching.{Searches, Acts};
-ghost use Rattle.gier_exec.specs.Beginning.{beginning, choosing};
+ghost use Rattle.gier_exec.specs.Following.{RefinesJump, RefinesValue};
+ghost use Rattle.gier_exec.specs.Searching.{RefinesSearch, RefinesReading};
+ghost use Rattle.gier_exec.specs.Beginning.{evaluation_row, choice_row};
 ghost use Rattle.gier_word.specs.Cause.{HasRisen};
 ghost use Rattle.gier_order.specs.Codes.{IsOrder};
-ghost use Rattle.gier_exec.specs.Registers.{Keeps, Goes};
-ghost use Rattle.gier_exec.specs.Reading.{CanRead, Reads, seen};
+ghost use Rattle.gier_exec.specs.Registers.{PreservesPlace, Progresses};
+ghost use Rattle.gier_exec.specs.Reading.{CanRead, Reads, SamePager, pager_view};
 ghost use Rattle.gier_exec.specs.Finding.{IsFound};
 ghost use Rattle.gier_exec.specs.declared.stop.Miss.TheVariants.{Drum as DrumFailed, Stop as Stopped};
 ghost use Rattle.gier_exec.specs.declared.stop.Stop.TheVariants.{Odd};
@@ -24,14 +24,13 @@ use crate::Machine;
 use crate::activations::{Evaluation, enter_evaluation, wanted_now};
 use crate::frame::{place_of, read_pair};
 use crate::number::number_of;
+use crate::pager::Pager;
 use crate::reading::{fetch, fetch_only};
 use crate::stop::{Miss, ODD, Stop};
-use gier_best::Trace;
 use gier_drum::Drum;
 use gier_frames::Frames;
 use gier_names::{Wanted, pick};
-use gier_order::{Object, Operation, Order, Recent};
-use gier_places::Places;
+use gier_order::{Object, Operation, Order};
 
 // The greatest kind of an evaluation.
 const LAST_KIND: u8 = 3;
@@ -41,34 +40,31 @@ pub(crate) fn evaluate<D: Drum>(
     m: &mut Machine,
     frames: &mut Frames,
     object: &Object,
-    drum: &mut D,
-    places: &mut Places,
-    recent: &mut Recent,
-    trace: &mut Trace,
+    pager: &mut Pager<D>,
     operation: Operation,
     order: Order,
 ) -> Result<u32, Miss>
     requires order { IsOrder order }
     requires place { m.old.place < object.now.words }
-    requires can { CanRead 1 object.now (seen D.room D.tracks D.journal D.faults drum.old places.old recent.old trace.old) }
+    requires can { CanRead 1 object.now (pager_view D.room D.tracks D.journal D.faults pager.old) }
     requires kept { IsKept frames.old }
-    ensures row { (tracks : List (List ℕ)) (input : List ℕ) → D.tracks drum.old ≡ Some tracks → Agrees (Some tracks) places.old.held
+    ensures row { (tracks : List (List ℕ)) (input : List ℕ) → D.tracks pager.old.drum.now ≡ Some tracks
+        → Agrees (Some tracks) pager.old.places.now.held
         → frames.old.entered ≡ true → is_evaluation operation ≡ true
-        → Acts object.now (seen D.room D.tracks D.journal D.faults drum.old places.old recent.old trace.old)
-        (seen D.room D.tracks D.journal D.faults drum.new places.new recent.new trace.new)
+        → RefinesReading object.now (pager_view D.room D.tracks D.journal D.faults pager.old)
+        (pager_view D.room D.tracks D.journal D.faults pager.new)
         (effect (code_in tracks object.now) (length frames.old.words) (regs_of m.old frames.old input) operation order.level
         order.address) (regs_of m.new frames.new input) result }
-    ensures keeps { Keeps m.old m.new }
-    ensures goes { IfOk result (λ next. Goes object.now.words m.old next m.new) }
+    ensures keeps { PreservesPlace m.old m.new }
+    ensures goes { IfOk result (λ next. Progresses object.now.words m.old next m.new) }
     ensures size { length frames.new.words ≡ length frames.old.words }
-    ensures reads { Reads 1 object.now (seen D.room D.tracks D.journal D.faults drum.old places.old recent.old trace.old)
-        (seen D.room D.tracks D.journal D.faults drum.new places.new recent.new trace.new) }
-    ensures failed { result ≡ Err DrumFailed → HasRisen (D.faults drum.old) (D.faults drum.new) }
+    ensures same_references { SamePager pager.old pager.new }
+    ensures reads { Reads 1 object.now (pager_view D.room D.tracks D.journal D.faults pager.old)
+        (pager_view D.room D.tracks D.journal D.faults pager.new) }
+    ensures failed { result ≡ Err DrumFailed → HasRisen (D.faults pager.old.drum.now) (D.faults pager.new.drum.now) }
     ensures odd { result ≡ Err (Stopped Odd) → (m.new ≡ m.old) × (frames.new ≡ frames.old) }
 {
-    let found = match find_formal(
-        frames, object, drum, places, recent, trace, operation, order,
-    ) {
+    let found = match find_formal(frames, object, pager, operation, order) {
         Ok(found) => found,
         Err(miss) => return Err(miss),
     };
@@ -83,34 +79,31 @@ pub(crate) fn choose<D: Drum>(
     m: &mut Machine,
     frames: &mut Frames,
     object: &Object,
-    drum: &mut D,
-    places: &mut Places,
-    recent: &mut Recent,
-    trace: &mut Trace,
+    pager: &mut Pager<D>,
     operation: Operation,
     order: Order,
 ) -> Result<u32, Miss>
     requires order { IsOrder order }
     requires place { m.old.place < object.now.words }
-    requires can { CanRead 3 object.now (seen D.room D.tracks D.journal D.faults drum.old places.old recent.old trace.old) }
+    requires can { CanRead 3 object.now (pager_view D.room D.tracks D.journal D.faults pager.old) }
     requires kept { IsKept frames.old }
-    ensures row { (tracks : List (List ℕ)) (input : List ℕ) → D.tracks drum.old ≡ Some tracks → Agrees (Some tracks) places.old.held
+    ensures row { (tracks : List (List ℕ)) (input : List ℕ) → D.tracks pager.old.drum.now ≡ Some tracks
+        → Agrees (Some tracks) pager.old.places.now.held
         → frames.old.entered ≡ true → is_choice operation ≡ true
-        → Acts object.now (seen D.room D.tracks D.journal D.faults drum.old places.old recent.old trace.old)
-        (seen D.room D.tracks D.journal D.faults drum.new places.new recent.new trace.new)
+        → RefinesReading object.now (pager_view D.room D.tracks D.journal D.faults pager.old)
+        (pager_view D.room D.tracks D.journal D.faults pager.new)
         (effect (code_in tracks object.now) (length frames.old.words) (regs_of m.old frames.old input) operation order.level
         order.address) (regs_of m.new frames.new input) result }
-    ensures keeps { Keeps m.old m.new }
-    ensures goes { IfOk result (λ next. Goes object.now.words m.old next m.new) }
+    ensures keeps { PreservesPlace m.old m.new }
+    ensures goes { IfOk result (λ next. Progresses object.now.words m.old next m.new) }
     ensures size { length frames.new.words ≡ length frames.old.words }
-    ensures reads { Reads 3 object.now (seen D.room D.tracks D.journal D.faults drum.old places.old recent.old trace.old)
-        (seen D.room D.tracks D.journal D.faults drum.new places.new recent.new trace.new) }
-    ensures failed { result ≡ Err DrumFailed → HasRisen (D.faults drum.old) (D.faults drum.new) }
+    ensures same_references { SamePager pager.old pager.new }
+    ensures reads { Reads 3 object.now (pager_view D.room D.tracks D.journal D.faults pager.old)
+        (pager_view D.room D.tracks D.journal D.faults pager.new) }
+    ensures failed { result ≡ Err DrumFailed → HasRisen (D.faults pager.old.drum.now) (D.faults pager.new.drum.now) }
     ensures odd { result ≡ Err (Stopped Odd) → (m.new ≡ m.old) × (frames.new ≡ frames.old) }
 {
-    let found = match find_element(
-        m, frames, object, drum, places, recent, trace, operation, order,
-    ) {
+    let found = match find_element(m, frames, object, pager, operation, order) {
         Ok(found) => found,
         Err(miss) => return Err(miss),
     };
@@ -131,10 +124,11 @@ fn enter_chosen(
     requires place { m.old.place < words }
     requires kept { IsKept frames.old }
     ensures row { (code input : List ℕ) → frames.old.entered ≡ true → length code ≡ words
-        → Comes (choosing code (length frames.old.words) (regs_of m.old frames.old input) chosen) (regs_of m.new frames.new input)
+        → RefinesJump (choice_row code (length frames.old.words) (regs_of m.old frames.old input) chosen)
+        (regs_of m.new frames.new input)
         result }
-    ensures keeps { Keeps m.old m.new }
-    ensures goes { IfOk result (λ at. Goes words m.old at m.new) }
+    ensures keeps { PreservesPlace m.old m.new }
+    ensures goes { IfOk result (λ at. Progresses words m.old at m.new) }
     ensures size { length frames.new.words ≡ length frames.old.words }
     ensures odd { result ≡ Err Odd → (m.new ≡ m.old) × (frames.new ≡ frames.old) }
 {
@@ -147,9 +141,9 @@ fn enter_chosen(
 // The subscript names no element.
 fn choose_none(m: &mut Machine, words: u32) -> Result<u32, Stop>
     ensures row { (code input : List ℕ) (s : State) → length code ≡ words
-        → Comes (choosing code (length s.words) (regs_of m.old s input) None) (regs_of m.new s input) result }
-    ensures keeps { Keeps m.old m.new }
-    ensures goes { IfOk result (λ next. Goes words m.old next m.new) }
+        → RefinesJump (choice_row code (length s.words) (regs_of m.old s input) None) (regs_of m.new s input) result }
+    ensures keeps { PreservesPlace m.old m.new }
+    ensures goes { IfOk result (λ next. Progresses words m.old next m.new) }
     ensures odd { result ≡ Err Odd → m.new ≡ m.old }
 {
     match m.ahead(m.behind(), words) {
@@ -166,26 +160,24 @@ fn choose_none(m: &mut Machine, words: u32) -> Result<u32, Stop>
 fn find_formal<D: Drum>(
     frames: &Frames,
     object: &Object,
-    drum: &mut D,
-    places: &mut Places,
-    recent: &mut Recent,
-    trace: &mut Trace,
+    pager: &mut Pager<D>,
     operation: Operation,
     order: Order,
 ) -> Result<Evaluation, Miss>
     requires order { IsOrder order }
-    requires can { CanRead 1 object.now (seen D.room D.tracks D.journal D.faults drum.old places.old recent.old trace.old) }
-    ensures row { (tracks : List (List ℕ)) (m : Registers) (input : List ℕ) → D.tracks drum.old ≡ Some tracks
-        → Agrees (Some tracks) places.old.held → frames.now.entered ≡ true → is_evaluation operation ≡ true
-        → Searches object.now (seen D.room D.tracks D.journal D.faults drum.old places.old recent.old trace.old)
-        (seen D.room D.tracks D.journal D.faults drum.new places.new recent.new trace.new)
+    requires can { CanRead 1 object.now (pager_view D.room D.tracks D.journal D.faults pager.old) }
+    ensures row { (tracks : List (List ℕ)) (m : Registers) (input : List ℕ) → D.tracks pager.old.drum.now ≡ Some tracks
+        → Agrees (Some tracks) pager.old.places.now.held → frames.now.entered ≡ true → is_evaluation operation ≡ true
+        → RefinesSearch object.now (pager_view D.room D.tracks D.journal D.faults pager.old)
+        (pager_view D.room D.tracks D.journal D.faults pager.new)
         (effect (code_in tracks object.now) (length frames.now.words) (regs_of m frames.now input) operation order.level
         order.address) (regs_of m frames.now input)
-        (λ found. beginning (code_in tracks object.now) (length frames.now.words) (regs_of m frames.now input) found) result }
+        (λ found. evaluation_row (code_in tracks object.now) (length frames.now.words) (regs_of m frames.now input) found) result }
     ensures found { IfOk result (λ found. IsFound object.now.words found) }
-    ensures reads { Reads 1 object.now (seen D.room D.tracks D.journal D.faults drum.old places.old recent.old trace.old)
-        (seen D.room D.tracks D.journal D.faults drum.new places.new recent.new trace.new) }
-    ensures failed { result ≡ Err DrumFailed → HasRisen (D.faults drum.old) (D.faults drum.new) }
+    ensures same_references { SamePager pager.old pager.new }
+    ensures reads { Reads 1 object.now (pager_view D.room D.tracks D.journal D.faults pager.old)
+        (pager_view D.room D.tracks D.journal D.faults pager.new) }
+    ensures failed { result ≡ Err DrumFailed → HasRisen (D.faults pager.old.drum.now) (D.faults pager.new.drum.now) }
 {
     let wanted = match wanted_by(frames, operation) {
         Ok(wanted) => wanted,
@@ -195,13 +187,13 @@ fn find_formal<D: Drum>(
         Ok(pair) => pair,
         Err(stop) => return Err(Miss::Stop(stop)),
     };
-    find_thunk(object, drum, places, recent, trace, address, outer, wanted)
+    find_thunk(object, pager, address, outer, wanted)
 }
 
 // What an order wants of the evaluation in cell; PASS wants what the current activation wants, and no label.
 fn wanted_by(frames: &Frames, operation: Operation) -> Result<Wanted, Stop>
     ensures row { (code input : List ℕ) (m : Registers) (l a : ℕ) → frames.now.entered ≡ true → is_evaluation operation ≡ true
-        → Gets (effect code (length frames.now.words) (regs_of m frames.now input) operation l a)
+        → RefinesValue (effect code (length frames.now.words) (regs_of m frames.now input) operation l a)
         (λ wanted. cell_pair code (length frames.now.words) (regs_of m frames.now input) l a
         (λ k outer. evaluates code (length frames.now.words) (regs_of m frames.now input) k outer (wanted_number wanted)))
         result }
@@ -231,35 +223,25 @@ fn unless_label(wanted: Wanted) -> Result<Wanted, Stop>
 #[tactic(auto, using(crate::proofs::Evaluatings::thunk_is))]
 fn find_thunk<D: Drum>(
     object: &Object,
-    drum: &mut D,
-    places: &mut Places,
-    recent: &mut Recent,
-    trace: &mut Trace,
+    pager: &mut Pager<D>,
     address: u64,
     outer: u64,
     wanted: Wanted,
 ) -> Result<Evaluation, Miss>
-    requires can { CanRead 1 object.now (seen D.room D.tracks D.journal D.faults drum.old places.old recent.old trace.old) }
-    ensures row { (tracks : List (List ℕ)) (size : ℕ) (regs : Regs) → D.tracks drum.old ≡ Some tracks
-        → Agrees (Some tracks) places.old.held
-        → Searches object.now (seen D.room D.tracks D.journal D.faults drum.old places.old recent.old trace.old)
-        (seen D.room D.tracks D.journal D.faults drum.new places.new recent.new trace.new)
+    requires can { CanRead 1 object.now (pager_view D.room D.tracks D.journal D.faults pager.old) }
+    ensures row { (tracks : List (List ℕ)) (size : ℕ) (regs : Regs) → D.tracks pager.old.drum.now ≡ Some tracks
+        → Agrees (Some tracks) pager.old.places.now.held
+        → RefinesSearch object.now (pager_view D.room D.tracks D.journal D.faults pager.old)
+        (pager_view D.room D.tracks D.journal D.faults pager.new)
         (evaluates (code_in tracks object.now) size regs address outer (wanted_number wanted)) regs
-        (λ found. beginning (code_in tracks object.now) size regs found) result }
+        (λ found. evaluation_row (code_in tracks object.now) size regs found) result }
     ensures found { IfOk result (λ found. IsFound object.now.words found) }
-    ensures reads { Reads 1 object.now (seen D.room D.tracks D.journal D.faults drum.old places.old recent.old trace.old)
-        (seen D.room D.tracks D.journal D.faults drum.new places.new recent.new trace.new) }
-    ensures failed { result ≡ Err DrumFailed → HasRisen (D.faults drum.old) (D.faults drum.new) }
+    ensures same_references { SamePager pager.old pager.new }
+    ensures reads { Reads 1 object.now (pager_view D.room D.tracks D.journal D.faults pager.old)
+        (pager_view D.room D.tracks D.journal D.faults pager.new) }
+    ensures failed { result ≡ Err DrumFailed → HasRisen (D.faults pager.old.drum.now) (D.faults pager.new.drum.now) }
 {
-    let thunk = match fetch_only(
-        object,
-        drum,
-        places,
-        recent,
-        trace,
-        address,
-        Operation::Thunk,
-    ) {
+    let thunk = match fetch_only(object, pager, address, Operation::Thunk) {
         Ok(thunk) => thunk,
         Err(miss) => return Err(miss),
     };
@@ -280,39 +262,38 @@ fn find_element<D: Drum>(
     m: &Machine,
     frames: &Frames,
     object: &Object,
-    drum: &mut D,
-    places: &mut Places,
-    recent: &mut Recent,
-    trace: &mut Trace,
+    pager: &mut Pager<D>,
     operation: Operation,
     order: Order,
 ) -> Result<Option<Evaluation>, Miss>
     requires order { IsOrder order }
-    requires can { CanRead 3 object.now (seen D.room D.tracks D.journal D.faults drum.old places.old recent.old trace.old) }
-    ensures row { (tracks : List (List ℕ)) (input : List ℕ) → D.tracks drum.old ≡ Some tracks → Agrees (Some tracks) places.old.held
+    requires can { CanRead 3 object.now (pager_view D.room D.tracks D.journal D.faults pager.old) }
+    ensures row { (tracks : List (List ℕ)) (input : List ℕ) → D.tracks pager.old.drum.now ≡ Some tracks
+        → Agrees (Some tracks) pager.old.places.now.held
         → frames.now.entered ≡ true → is_choice operation ≡ true
-        → Searches object.now (seen D.room D.tracks D.journal D.faults drum.old places.old recent.old trace.old)
-        (seen D.room D.tracks D.journal D.faults drum.new places.new recent.new trace.new)
+        → RefinesSearch object.now (pager_view D.room D.tracks D.journal D.faults pager.old)
+        (pager_view D.room D.tracks D.journal D.faults pager.new)
         (effect (code_in tracks object.now) (length frames.now.words) (regs_of m.now frames.now input) operation order.level
         order.address) (regs_of m.now frames.now input)
-        (λ chosen. choosing (code_in tracks object.now) (length frames.now.words) (regs_of m.now frames.now input) chosen)
+        (λ chosen. choice_row (code_in tracks object.now) (length frames.now.words) (regs_of m.now frames.now input) chosen)
         result }
     ensures found { IfOk result (λ chosen. IfSome chosen (λ found. IsFound object.now.words found)) }
-    ensures reads { Reads 3 object.now (seen D.room D.tracks D.journal D.faults drum.old places.old recent.old trace.old)
-        (seen D.room D.tracks D.journal D.faults drum.new places.new recent.new trace.new) }
-    ensures failed { result ≡ Err DrumFailed → HasRisen (D.faults drum.old) (D.faults drum.new) }
+    ensures same_references { SamePager pager.old pager.new }
+    ensures reads { Reads 3 object.now (pager_view D.room D.tracks D.journal D.faults pager.old)
+        (pager_view D.room D.tracks D.journal D.faults pager.new) }
+    ensures failed { result ≡ Err DrumFailed → HasRisen (D.faults pager.old.drum.now) (D.faults pager.new.drum.now) }
 {
     let (table, outer) = match find_table(frames, operation, order) {
         Ok(pair) => pair,
         Err(stop) => return Err(Miss::Stop(stop)),
     };
-    let count = match fetch(object, drum, places, recent, trace, table) {
+    let count = match fetch(object, pager, table) {
         Ok(count) => count,
         Err(miss) => return Err(miss),
     };
     match pick(number_of(m.r()), count) {
         None => Ok(None),
-        Some(at) => match find_label(object, drum, places, recent, trace, table + 1 + at, outer) {
+        Some(at) => match find_label(object, pager, table + 1 + at, outer) {
             Ok(found) => Ok(Some(found)),
             Err(miss) => Err(miss),
         },
@@ -323,7 +304,7 @@ fn find_element<D: Drum>(
 fn find_table(frames: &Frames, operation: Operation, order: Order) -> Result<(u64, u64), Stop>
     requires { IsOrder order }
     ensures row { (code input : List ℕ) (m : Registers) → frames.now.entered ≡ true → is_choice operation ≡ true
-        → Gets (effect code (length frames.now.words) (regs_of m frames.now input) operation order.level order.address)
+        → RefinesValue (effect code (length frames.now.words) (regs_of m frames.now input) operation order.level order.address)
         (λ pair. switches code (length frames.now.words) (regs_of m frames.now input) pair.0 pair.1) result }
     ensures small { IfOk result (λ pair. pair.0 < 2 ^ 40) }
 {
@@ -339,38 +320,27 @@ fn find_table(frames: &Frames, operation: Operation, order: Order) -> Result<(u6
 // The evaluation of the element whose address stands at this one.
 fn find_label<D: Drum>(
     object: &Object,
-    drum: &mut D,
-    places: &mut Places,
-    recent: &mut Recent,
-    trace: &mut Trace,
+    pager: &mut Pager<D>,
     entry: u64,
     outer: u64,
 ) -> Result<Evaluation, Miss>
-    requires can { CanRead 2 object.now (seen D.room D.tracks D.journal D.faults drum.old places.old recent.old trace.old) }
-    ensures row { (tracks : List (List ℕ)) (size : ℕ) (regs : Regs) → D.tracks drum.old ≡ Some tracks
-        → Agrees (Some tracks) places.old.held
-        → Searches object.now (seen D.room D.tracks D.journal D.faults drum.old places.old recent.old trace.old)
-        (seen D.room D.tracks D.journal D.faults drum.new places.new recent.new trace.new)
+    requires can { CanRead 2 object.now (pager_view D.room D.tracks D.journal D.faults pager.old) }
+    ensures row { (tracks : List (List ℕ)) (size : ℕ) (regs : Regs) → D.tracks pager.old.drum.now ≡ Some tracks
+        → Agrees (Some tracks) pager.old.places.now.held
+        → RefinesSearch object.now (pager_view D.room D.tracks D.journal D.faults pager.old)
+        (pager_view D.room D.tracks D.journal D.faults pager.new)
         (reads_word (code_in tracks object.now) entry
         (λ address. evaluates (code_in tracks object.now) size regs address outer 3)) regs
-        (λ found. beginning (code_in tracks object.now) size regs found) result }
+        (λ found. evaluation_row (code_in tracks object.now) size regs found) result }
     ensures found { IfOk result (λ found. IsFound object.now.words found) }
-    ensures reads { Reads 2 object.now (seen D.room D.tracks D.journal D.faults drum.old places.old recent.old trace.old)
-        (seen D.room D.tracks D.journal D.faults drum.new places.new recent.new trace.new) }
-    ensures failed { result ≡ Err DrumFailed → HasRisen (D.faults drum.old) (D.faults drum.new) }
+    ensures same_references { SamePager pager.old pager.new }
+    ensures reads { Reads 2 object.now (pager_view D.room D.tracks D.journal D.faults pager.old)
+        (pager_view D.room D.tracks D.journal D.faults pager.new) }
+    ensures failed { result ≡ Err DrumFailed → HasRisen (D.faults pager.old.drum.now) (D.faults pager.new.drum.now) }
 {
-    let address = match fetch(object, drum, places, recent, trace, entry) {
+    let address = match fetch(object, pager, entry) {
         Ok(address) => address,
         Err(miss) => return Err(miss),
     };
-    find_thunk(
-        object,
-        drum,
-        places,
-        recent,
-        trace,
-        address,
-        outer,
-        Wanted::Label,
-    )
+    find_thunk(object, pager, address, outer, Wanted::Label)
 }

@@ -1,5 +1,6 @@
 // Which part of the machine carries out an order.
-ghost use Rattle.std.specs.Prelude.{◌≡◌, ◌≢◌, ◌+◌, ◌*◌, ◌<◌, ◌≤◌, ◌^◌, ◌||◌, ◌++◌, ℕ, true, List, [], Some, IfOk, IsTrue, length, Err};
+ghost use Rattle.std.specs.Prelude.{◌≡◌, ◌≢◌, ◌+◌, ◌*◌, ◌<◌, ◌≤◌, ◌^◌, ◌||◌, ◌++◌, ℕ, true, List, [], Some, IfOk, IsTrue, length};
+ghost use Rattle.std.specs.Prelude.{Err};
 ghost use Rattle.gier_frames.specs.State.{State, IsKept};
 ghost use Rattle.gier_places.specs.Contents.{Agrees};
 ghost use Rattle.gier_order.specs.Table.{operation_at};
@@ -7,17 +8,17 @@ ghost use Rattle.gier_order.specs.declared.operation.Operation.TheVariants.{Long
 ghost use Rattle.gier_order.specs.Flat.Row.{needs};
 ghost use Rattle.gier_order.specs.Flat.Rows.{effect, does};
 ghost use Rattle.gier_exec.specs.Rows.{regs_of, code_in};
-ghost use Rattle.gier_exec.specs.Following.{Comes};
-ghost use Rattle.gier_exec.specs.References.{Refers, Does};
-ghost use Rattle.gier_exec.specs.Turning.{IsRest, Obeys};
+ghost use Rattle.gier_exec.specs.Following.{RefinesJump};
+ghost use Rattle.gier_exec.specs.References.{Refers, RefinesOrder};
+ghost use Rattle.gier_exec.specs.Turning.{IsRest, RefinesExecution};
 ghost use Rattle.gier_io.specs.Device.{Puts};
 ghost use Rattle.gier_library.specs.Data.{Takes};
 ghost use Rattle.gier_exec.specs.Numbers.{is_jump, is_plain, is_start};
 ghost use Rattle.gier_word.specs.Cause.{HasRisen};
 ghost use Rattle.gier_library.specs.DataView.{source_of, has_ended, stand_of};
 ghost use Rattle.gier_order.specs.Codes.{IsOrder};
-ghost use Rattle.gier_exec.specs.Registers.{Keeps, Goes};
-ghost use Rattle.gier_exec.specs.Reading.{CanRead, Reads, seen};
+ghost use Rattle.gier_exec.specs.Registers.{PreservesPlace, Progresses};
+ghost use Rattle.gier_exec.specs.Reading.{CanRead, Reads, SamePager, pager_view};
 ghost use Rattle.gier_exec.specs.declared.stop.Miss.TheVariants.{Drum as DrumFailed, Stop as Stopped};
 ghost use Rattle.gier_exec.specs.declared.stop.Quit.TheVariants.{Miss as Missed, Read, Write};
 ghost use Rattle.gier_exec.specs.declared.stop.Stop.TheVariants.{Odd};
@@ -29,16 +30,15 @@ use crate::evaluations::{choose, evaluate};
 use crate::jumps::{go, jump, jump_if_false, turn};
 use crate::kinds::{compare, look_at_kind};
 use crate::library::library;
+use crate::pager::Pager;
 use crate::reading::fetch;
 use crate::stop::{Miss, ODD, Quit, Stop};
 use crate::values::plain;
-use gier_best::Trace;
 use gier_drum::Drum;
 use gier_frames::Frames;
 use gier_io::{Sink, Source};
 use gier_library::Data;
-use gier_order::{Object, Operation, Order, Recent};
-use gier_places::Places;
+use gier_order::{Object, Operation, Order};
 
 /// Carries out an order, and gives the address of the next one.
 #[inline(always)]
@@ -46,10 +46,7 @@ pub(crate) fn execute<D: Drum, S: Source, K: Sink>(
     m: &mut Machine,
     frames: &mut Frames,
     object: &Object,
-    drum: &mut D,
-    places: &mut Places,
-    recent: &mut Recent,
-    trace: &mut Trace,
+    pager: &mut Pager<D>,
     input: &mut Data<S>,
     out: &mut K,
     order: Order,
@@ -57,53 +54,43 @@ pub(crate) fn execute<D: Drum, S: Source, K: Sink>(
     requires order { IsOrder order }
     requires place { m.old.place < object.now.words }
     requires can { CanRead (2 * object.now.words + 1) object.now
-        (seen D.room D.tracks D.journal D.faults drum.old places.old recent.old trace.old) }
-    ensures row { (tracks : List (List ℕ)) → D.tracks drum.old ≡ Some tracks → Agrees (Some tracks) places.old.held
+        (pager_view D.room D.tracks D.journal D.faults pager.old) }
+    ensures row { (tracks : List (List ℕ)) → D.tracks pager.old.drum.now ≡ Some tracks
+        → Agrees (Some tracks) pager.old.places.now.held
         → (read put taken : List ℕ) × Refers object.now read
-        (seen D.room D.tracks D.journal D.faults drum.old places.old recent.old trace.old)
-        (seen D.room D.tracks D.journal D.faults drum.new places.new recent.new trace.new)
+        (pager_view D.room D.tracks D.journal D.faults pager.old)
+        (pager_view D.room D.tracks D.journal D.faults pager.new)
         × Puts (K.holds out.old) put (K.holds out.new) × Takes (stand_of S.left input.old) taken (stand_of S.left input.new)
         × ((rest : List ℕ) → IsRest (has_ended input.new) rest
-        → Obeys (does (code_in tracks object.now) (length frames.old.words) (regs_of m.old frames.old (taken ++ rest)) order
+        → RefinesExecution (does (code_in tracks object.now) (length frames.old.words) (regs_of m.old frames.old (taken
+        ++ rest)) order
         (operation_at order.op)) (regs_of m.old frames.old (taken ++ rest)) (regs_of m.new frames.new rest) read put taken
         result) }
-    ensures keeps { Keeps m.old m.new }
-    ensures goes { IfOk result (λ next. Goes object.now.words m.old next m.new) }
+    ensures keeps { PreservesPlace m.old m.new }
+    ensures goes { IfOk result (λ next. Progresses object.now.words m.old next m.new) }
     ensures size { length frames.new.words ≡ length frames.old.words }
+    ensures same_references { SamePager pager.old pager.new }
     ensures reads { Reads (2 * object.now.words + 1) object.now
-        (seen D.room D.tracks D.journal D.faults drum.old places.old recent.old trace.old)
-        (seen D.room D.tracks D.journal D.faults drum.new places.new recent.new trace.new) }
+        (pager_view D.room D.tracks D.journal D.faults pager.old)
+        (pager_view D.room D.tracks D.journal D.faults pager.new) }
     ensures same_reference { input.new.source.ghost_name ≡ input.old.source.ghost_name }
     ensures source_later { S.faults (source_of input.old) ≤ S.faults (source_of input.new) }
     ensures source_failed { result ≡ Err Read → HasRisen (S.faults (source_of input.old)) (S.faults (source_of input.new)) }
     ensures sink_later { K.faults out.old ≤ K.faults out.new }
     ensures sink_failed { result ≡ Err Write → HasRisen (K.faults out.old) (K.faults out.new) }
-    ensures failed { result ≡ Err (Missed DrumFailed) → HasRisen (D.faults drum.old) (D.faults drum.new) }
+    ensures failed { result ≡ Err (Missed DrumFailed) → HasRisen (D.faults pager.old.drum.now) (D.faults pager.new.drum.now) }
     ensures spoilt { result ≡ Err (Missed (Stopped Odd)) → (m.new ≡ m.old)
         × ((frames.new ≡ frames.old) × ((out.new ≡ out.old) × (input.new ≡ input.old))) }
 {
     let operation = order.operation();
     match operation {
         Operation::Lib => {
-            return procedure(
-                m,
-                frames,
-                object,
-                drum,
-                places,
-                recent,
-                trace,
-                input,
-                out,
-                order.address,
-            );
+            return procedure(m, frames, object, pager, input, out, order.address);
         }
         _ => {}
     }
     if is_allowed(frames, operation) {
-        return match dispatch(
-            m, frames, object, drum, places, recent, trace, operation, order,
-        ) {
+        return match dispatch(m, frames, object, pager, operation, order) {
             Ok(next) => Ok(next),
             Err(miss) => Err(Quit::Miss(miss)),
         };
@@ -117,14 +104,7 @@ fn is_allowed(frames: &Frames, operation: Operation) -> bool
     ensures value { result ≡ (frames.now.entered || is_start operation) }
     ensures kept { IsKept frames.now }
 {
-    is_entered(frames) || operation == Operation::Start
-}
-
-fn is_entered(frames: &Frames) -> bool
-    ensures value { result ≡ frames.now.entered }
-    ensures kept { IsKept frames.now }
-{
-    frames.here(0).is_ok()
+    frames.is_entered() || operation == Operation::Start
 }
 
 // LIB.
@@ -133,44 +113,43 @@ fn procedure<D: Drum, S: Source, K: Sink>(
     m: &mut Machine,
     frames: &Frames,
     object: &Object,
-    drum: &mut D,
-    places: &mut Places,
-    recent: &mut Recent,
-    trace: &mut Trace,
+    pager: &mut Pager<D>,
     input: &mut Data<S>,
     out: &mut K,
     number: u32,
 ) -> Result<u32, Quit>
     requires place { m.old.place < object.now.words }
     requires can { CanRead (object.now.words + 1) object.now
-        (seen D.room D.tracks D.journal D.faults drum.old places.old recent.old trace.old) }
-    ensures row { (tracks : List (List ℕ)) → D.tracks drum.old ≡ Some tracks → Agrees (Some tracks) places.old.held
+        (pager_view D.room D.tracks D.journal D.faults pager.old) }
+    ensures row { (tracks : List (List ℕ)) → D.tracks pager.old.drum.now ≡ Some tracks
+        → Agrees (Some tracks) pager.old.places.now.held
         → (read put taken : List ℕ) × Refers object.now read
-        (seen D.room D.tracks D.journal D.faults drum.old places.old recent.old trace.old)
-        (seen D.room D.tracks D.journal D.faults drum.new places.new recent.new trace.new)
+        (pager_view D.room D.tracks D.journal D.faults pager.old)
+        (pager_view D.room D.tracks D.journal D.faults pager.new)
         × Puts (K.holds out.old) put (K.holds out.new) × Takes (stand_of S.left input.old) taken (stand_of S.left input.new)
         × ((rest : List ℕ) (l : ℕ) → IsRest (has_ended input.new) rest
-        → Obeys (needs frames.now.entered (effect (code_in tracks object.now) (length frames.now.words)
+        → RefinesExecution (needs frames.now.entered (effect (code_in tracks object.now) (length frames.now.words)
         (regs_of m.old frames.now (taken ++ rest)) Lib l number)) (regs_of m.old frames.now (taken ++ rest))
         (regs_of m.new frames.now rest) read put taken result) }
-    ensures keeps { Keeps m.old m.new }
-    ensures goes { IfOk result (λ next. Goes object.now.words m.old next m.new) }
+    ensures keeps { PreservesPlace m.old m.new }
+    ensures goes { IfOk result (λ next. Progresses object.now.words m.old next m.new) }
+    ensures same_references { SamePager pager.old pager.new }
     ensures reads { Reads (object.now.words + 1) object.now
-        (seen D.room D.tracks D.journal D.faults drum.old places.old recent.old trace.old)
-        (seen D.room D.tracks D.journal D.faults drum.new places.new recent.new trace.new) }
+        (pager_view D.room D.tracks D.journal D.faults pager.old)
+        (pager_view D.room D.tracks D.journal D.faults pager.new) }
     ensures same_reference { input.new.source.ghost_name ≡ input.old.source.ghost_name }
     ensures source_later { S.faults (source_of input.old) ≤ S.faults (source_of input.new) }
     ensures source_failed { result ≡ Err Read → HasRisen (S.faults (source_of input.old)) (S.faults (source_of input.new)) }
     ensures sink_later { K.faults out.old ≤ K.faults out.new }
     ensures sink_failed { result ≡ Err Write → HasRisen (K.faults out.old) (K.faults out.new) }
-    ensures failed { result ≡ Err (Missed DrumFailed) → HasRisen (D.faults drum.old) (D.faults drum.new) }
+    ensures failed { result ≡ Err (Missed DrumFailed) → HasRisen (D.faults pager.old.drum.now) (D.faults pager.new.drum.now) }
     ensures odd { result ≡ Err (Missed (Stopped Odd)) → (m.new ≡ m.old) × ((out.new ≡ out.old) × (input.new ≡ input.old)) }
 {
     if m.behind() >= u64::from(object.words) {
         return Err(Quit::Miss(ODD));
     }
-    if is_entered(frames) {
-        return match library(m, object, drum, places, recent, trace, input, out, number) {
+    if frames.is_entered() {
+        return match library(m, object, pager, input, out, number) {
             Ok(()) => Ok(m.place() + 1),
             Err(quit) => Err(quit),
         };
@@ -184,33 +163,33 @@ fn dispatch<D: Drum>(
     m: &mut Machine,
     frames: &mut Frames,
     object: &Object,
-    drum: &mut D,
-    places: &mut Places,
-    recent: &mut Recent,
-    trace: &mut Trace,
+    pager: &mut Pager<D>,
     operation: Operation,
     order: Order,
 ) -> Result<u32, Miss>
     requires order { IsOrder order }
     requires place { m.old.place < object.now.words }
     requires can { CanRead (2 * object.now.words + 1) object.now
-        (seen D.room D.tracks D.journal D.faults drum.old places.old recent.old trace.old) }
+        (pager_view D.room D.tracks D.journal D.faults pager.old) }
     requires other { operation ≢ Lib }
     requires kept { IsKept frames.old }
-    ensures row { (tracks : List (List ℕ)) (input : List ℕ) → D.tracks drum.old ≡ Some tracks → Agrees (Some tracks) places.old.held
+    ensures row { (tracks : List (List ℕ)) (input : List ℕ) → D.tracks pager.old.drum.now ≡ Some tracks
+        → Agrees (Some tracks) pager.old.places.now.held
         → IsTrue (frames.old.entered || is_start operation)
         → (refs : List ℕ) × Refers object.now refs
-        (seen D.room D.tracks D.journal D.faults drum.old places.old recent.old trace.old)
-        (seen D.room D.tracks D.journal D.faults drum.new places.new recent.new trace.new)
-        × Does (effect (code_in tracks object.now) (length frames.old.words) (regs_of m.old frames.old input) operation order.level
+        (pager_view D.room D.tracks D.journal D.faults pager.old)
+        (pager_view D.room D.tracks D.journal D.faults pager.new)
+        × RefinesOrder (effect (code_in tracks object.now) (length frames.old.words)
+        (regs_of m.old frames.old input) operation order.level
         order.address) refs (regs_of m.new frames.new input) result }
-    ensures keeps { Keeps m.old m.new }
-    ensures goes { IfOk result (λ next. Goes object.now.words m.old next m.new) }
+    ensures keeps { PreservesPlace m.old m.new }
+    ensures goes { IfOk result (λ next. Progresses object.now.words m.old next m.new) }
     ensures size { length frames.new.words ≡ length frames.old.words }
+    ensures same_references { SamePager pager.old pager.new }
     ensures reads { Reads (2 * object.now.words + 1) object.now
-        (seen D.room D.tracks D.journal D.faults drum.old places.old recent.old trace.old)
-        (seen D.room D.tracks D.journal D.faults drum.new places.new recent.new trace.new) }
-    ensures failed { result ≡ Err DrumFailed → HasRisen (D.faults drum.old) (D.faults drum.new) }
+        (pager_view D.room D.tracks D.journal D.faults pager.old)
+        (pager_view D.room D.tracks D.journal D.faults pager.new) }
+    ensures failed { result ≡ Err DrumFailed → HasRisen (D.faults pager.old.drum.now) (D.faults pager.new.drum.now) }
     ensures odd { result ≡ Err (Stopped Odd) → (m.new ≡ m.old) × (frames.new ≡ frames.old) }
 {
     match operation {
@@ -222,23 +201,17 @@ fn dispatch<D: Drum>(
         | Operation::Back
         | Operation::Give => move_on(m, frames, operation, order, object.words),
         Operation::Value | Operation::Place | Operation::NameL | Operation::Pass => {
-            evaluate(
-                m, frames, object, drum, places, recent, trace, operation, order,
-            )
+            evaluate(m, frames, object, pager, operation, order)
         }
         Operation::Call | Operation::Formal | Operation::CallF => {
-            call(
-                m, frames, object, drum, places, recent, trace, operation, order,
-            )
+            call(m, frames, object, pager, operation, order)
         }
         Operation::Switch | Operation::SwForm => {
-            choose(
-                m, frames, object, drum, places, recent, trace, operation, order,
-            )
+            choose(m, frames, object, pager, operation, order)
         }
-        Operation::Long => long(m, object, drum, places, recent, trace),
-        Operation::Agree => compare(m, frames, object, drum, places, recent, trace, order),
-        Operation::ByVal => look_at_kind(m, frames, object, drum, places, recent, trace, order),
+        Operation::Long => long(m, object, pager),
+        Operation::Agree => compare(m, frames, object, pager, order),
+        Operation::ByVal => look_at_kind(m, frames, object, pager, order),
         Operation::Stop => Err(Miss::Stop(Stop::Ended)),
         Operation::Proc | Operation::Thunk | Operation::Kinds => Err(ODD),
         _ => go_on(m, frames, operation, order, object.words),
@@ -255,10 +228,11 @@ fn move_on(
     words: u32,
 ) -> Result<u32, Miss>
     ensures row { (code input : List ℕ) → frames.old.entered ≡ true → length code ≡ words → is_jump operation ≡ true
-        → Does (effect code (length frames.old.words) (regs_of m.old frames.old input) operation order.level order.address) []
+        → RefinesOrder (effect code (length frames.old.words)
+        (regs_of m.old frames.old input) operation order.level order.address) []
         (regs_of m.new frames.new input) result }
-    ensures keeps { Keeps m.old m.new }
-    ensures goes { IfOk result (λ next. Goes words m.old next m.new) }
+    ensures keeps { PreservesPlace m.old m.new }
+    ensures goes { IfOk result (λ next. Progresses words m.old next m.new) }
     ensures size { length frames.new.words ≡ length frames.old.words }
     ensures homely { result ≢ Err DrumFailed }
     ensures odd { result ≡ Err (Stopped Odd) → (m.new ≡ m.old) × (frames.new ≡ frames.old) }
@@ -278,10 +252,10 @@ fn choose_next(
     words: u32,
 ) -> Result<u32, Stop>
     ensures row { (code input : List ℕ) → frames.old.entered ≡ true → length code ≡ words → is_jump operation ≡ true
-        → Comes (effect code (length frames.old.words) (regs_of m.old frames.old input) operation order.level order.address)
+        → RefinesJump (effect code (length frames.old.words) (regs_of m.old frames.old input) operation order.level order.address)
         (regs_of m.new frames.new input) result }
-    ensures keeps { Keeps m.old m.new }
-    ensures goes { IfOk result (λ next. Goes words m.old next m.new) }
+    ensures keeps { PreservesPlace m.old m.new }
+    ensures goes { IfOk result (λ next. Progresses words m.old next m.new) }
     ensures size { length frames.new.words ≡ length frames.old.words }
     ensures odd { result ≡ Err Odd → (m.new ≡ m.old) × (frames.new ≡ frames.old) }
 {
@@ -309,10 +283,10 @@ fn go_on(
     requires order { IsOrder order }
     requires kept { IsKept frames.old }
     ensures row { (code input : List ℕ) → IsTrue (frames.old.entered || is_start operation) → length code ≡ words
-        → is_plain operation ≡ true → Does (effect code (length frames.old.words) (regs_of m.old frames.old input) operation
+        → is_plain operation ≡ true → RefinesOrder (effect code (length frames.old.words) (regs_of m.old frames.old input) operation
         order.level order.address) [] (regs_of m.new frames.new input) result }
-    ensures keeps { Keeps m.old m.new }
-    ensures goes { IfOk result (λ next. Goes words m.old next m.new) }
+    ensures keeps { PreservesPlace m.old m.new }
+    ensures goes { IfOk result (λ next. Progresses words m.old next m.new) }
     ensures size { length frames.new.words ≡ length frames.old.words }
     ensures homely { result ≢ Err DrumFailed }
     ensures odd { result ≡ Err (Stopped Odd) → (m.new ≡ m.old) × (frames.new ≡ frames.old) }
@@ -328,31 +302,26 @@ fn go_on(
 
 // LONG: R := the word behind the order, which is passed over.
 #[tactic(auto, using(crate::proofs::MeasureFalls::lighter_falls))]
-fn long<D: Drum>(
-    m: &mut Machine,
-    object: &Object,
-    drum: &mut D,
-    places: &mut Places,
-    recent: &mut Recent,
-    trace: &mut Trace,
-) -> Result<u32, Miss>
+fn long<D: Drum>(m: &mut Machine, object: &Object, pager: &mut Pager<D>) -> Result<u32, Miss>
     requires place { m.old.place < object.now.words }
-    requires can { CanRead 1 object.now (seen D.room D.tracks D.journal D.faults drum.old places.old recent.old trace.old) }
-    ensures row { (tracks : List (List ℕ)) (input : List ℕ) (s : State) (l a : ℕ) → D.tracks drum.old ≡ Some tracks
-        → Agrees (Some tracks) places.old.held
+    requires can { CanRead 1 object.now (pager_view D.room D.tracks D.journal D.faults pager.old) }
+    ensures row { (tracks : List (List ℕ)) (input : List ℕ) (s : State) (l a : ℕ) → D.tracks pager.old.drum.now ≡ Some tracks
+        → Agrees (Some tracks) pager.old.places.now.held
         → (refs : List ℕ) × Refers object.now refs
-        (seen D.room D.tracks D.journal D.faults drum.old places.old recent.old trace.old)
-        (seen D.room D.tracks D.journal D.faults drum.new places.new recent.new trace.new)
-        × Does (effect (code_in tracks object.now) (length s.words) (regs_of m.old s input) Long l a) refs (regs_of m.new s input)
+        (pager_view D.room D.tracks D.journal D.faults pager.old)
+        (pager_view D.room D.tracks D.journal D.faults pager.new)
+        × RefinesOrder (effect (code_in tracks object.now) (length s.words) (regs_of m.old s input) Long l a) refs
+        (regs_of m.new s input)
         result }
-    ensures keeps { Keeps m.old m.new }
-    ensures goes { IfOk result (λ next. Goes object.now.words m.old next m.new) }
-    ensures reads { Reads 1 object.now (seen D.room D.tracks D.journal D.faults drum.old places.old recent.old trace.old)
-        (seen D.room D.tracks D.journal D.faults drum.new places.new recent.new trace.new) }
-    ensures failed { result ≡ Err DrumFailed → HasRisen (D.faults drum.old) (D.faults drum.new) }
+    ensures keeps { PreservesPlace m.old m.new }
+    ensures goes { IfOk result (λ next. Progresses object.now.words m.old next m.new) }
+    ensures same_references { SamePager pager.old pager.new }
+    ensures reads { Reads 1 object.now (pager_view D.room D.tracks D.journal D.faults pager.old)
+        (pager_view D.room D.tracks D.journal D.faults pager.new) }
+    ensures failed { result ≡ Err DrumFailed → HasRisen (D.faults pager.old.drum.now) (D.faults pager.new.drum.now) }
     ensures odd { result ≡ Err (Stopped Odd) → m.new ≡ m.old }
 {
-    let word = match fetch(object, drum, places, recent, trace, m.behind()) {
+    let word = match fetch(object, pager, m.behind()) {
         Ok(word) => word,
         Err(miss) => return Err(miss),
     };

@@ -1,12 +1,13 @@
 // Single words of the frames, as the orders read and write them.
-ghost use Rattle.std.specs.Prelude.{◌≡◌, ◌+◌, ◌<◌, ◌≤◌, ◌^◌, ◌&&◌, ℕ, true, nat_lt, nat_le, List, Ok, Err, IfOk, OnErr, length, slice_index};
+ghost use Rattle.std.specs.Prelude.{◌≡◌, ◌+◌, ◌<◌, ◌≤◌, ◌^◌, ◌&&◌, ℕ, true, nat_lt, nat_le, List, Ok, Err, IfOk, OnErr, length};
+ghost use Rattle.std.specs.Prelude.{slice_index};
 ghost use Rattle.gier_frames.specs.Refusals.{is_call};
 ghost use Rattle.gier_frames.specs.Effects.{after_write};
 ghost use Rattle.gier_order.specs.Flat.Row.{Row};
 ghost use Rattle.gier_order.specs.Flat.Rows.{word_at, local as local_row, in_level, cell_pair};
 ghost use Rattle.gier_exec.specs.Registers.{Registers};
 ghost use Rattle.gier_exec.specs.Rows.{regs_of};
-ghost use Rattle.gier_exec.specs.Following.{Gets, word_of};
+ghost use Rattle.gier_exec.specs.Following.{RefinesValue, word_of};
 ghost use Rattle.gier_exec.specs.declared.stop.Stop.TheVariants.{Odd};
 
 use crate::stop::Stop;
@@ -19,7 +20,7 @@ pub(crate) fn local(frames: &Frames, address: u32) -> Result<u64, Stop>
     ensures small { IfOk result (λ word. word < 2 ^ 40) }
     ensures found { frames.now.entered ≡ true → result ≡ word_of frames.now (frames.now.base + address) }
     ensures row { (code input : List ℕ) (m : Registers) (go : ℕ → Row) → frames.now.entered ≡ true
-        → Gets (local_row code (length frames.now.words) (regs_of m frames.now input) address go) go result }
+        → RefinesValue (local_row code (length frames.now.words) (regs_of m frames.now input) address go) go result }
 {
     match frames.here(address) {
         Ok(place) => read(frames, place),
@@ -34,7 +35,7 @@ pub(crate) fn read(frames: &Frames, place: u64) -> Result<u64, Stop>
     ensures small { IfOk result (λ word. word < 2 ^ 40) }
     ensures found { frames.now.entered ≡ true → result ≡ word_of frames.now place }
     ensures row { (code input : List ℕ) (m : Registers) (go : ℕ → Row) → frames.now.entered ≡ true
-        → Gets (word_at code (length frames.now.words) (regs_of m frames.now input) place go) go result }
+        → RefinesValue (word_at code (length frames.now.words) (regs_of m frames.now input) place go) go result }
 {
     match frames.get(place) {
         Ok(word) => Ok(word),
@@ -48,7 +49,7 @@ pub(crate) fn read(frames: &Frames, place: u64) -> Result<u64, Stop>
 pub(crate) fn place_of(frames: &Frames, level: u8, address: u32) -> Result<u64, Stop>
     ensures small { IfOk result (λ place. place < 2 ^ 40) }
     ensures row { (code input : List ℕ) (m : Registers) (go : ℕ → Row) → frames.now.entered ≡ true
-        → Gets (in_level code (length frames.now.words) (regs_of m frames.now input) level (λ base. go (base + address))) go
+        → RefinesValue (in_level code (length frames.now.words) (regs_of m frames.now input) level (λ base. go (base + address))) go
         result }
 {
     match frames.cell(level, address) {
@@ -88,7 +89,8 @@ pub(crate) fn read_pair(frames: &Frames, level: u8, address: u32) -> Result<(u64
     ensures first { IfOk result (λ pair. pair.0 < 2 ^ 40) }
     ensures second { IfOk result (λ pair. pair.1 < 2 ^ 40) }
     ensures row { (code input : List ℕ) (m : Registers) (go : ℕ → ℕ → Row) → frames.now.entered ≡ true
-        → Gets (cell_pair code (length frames.now.words) (regs_of m frames.now input) level address go) (λ pair. go pair.0 pair.1)
+        → RefinesValue (cell_pair code (length frames.now.words) (regs_of m frames.now input) level address go)
+        (λ pair. go pair.0 pair.1)
         result }
 {
     let place = match place_of(frames, level, address) {

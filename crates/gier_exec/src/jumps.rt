@@ -4,8 +4,8 @@ ghost use Rattle.gier_frames.specs.State.{State};
 ghost use Rattle.gier_order.specs.declared.operation.Operation.TheVariants.{False, Turn, Go};
 ghost use Rattle.gier_order.specs.Flat.Rows.{effect, jumps};
 ghost use Rattle.gier_exec.specs.Rows.{regs_of};
-ghost use Rattle.gier_exec.specs.Following.{Comes, leaps};
-ghost use Rattle.gier_exec.specs.Registers.{Keeps, Goes};
+ghost use Rattle.gier_exec.specs.Following.{RefinesJump, go_row};
+ghost use Rattle.gier_exec.specs.Registers.{PreservesPlace, Progresses};
 ghost use Rattle.gier_exec.specs.declared.stop.Stop.TheVariants.{Odd};
 
 use crate::Machine;
@@ -18,8 +18,8 @@ use gier_frames::Frames;
 #[inline(always)]
 pub(crate) fn jump(m: &Machine, address: u32, words: u32) -> Result<u32, Stop>
     ensures row { (code input : List ℕ) (s : State) → length code ≡ words
-        → Comes (jumps code (length s.words) (regs_of m.now s input) address) (regs_of m.now s input) result }
-    ensures goes { IfOk result (λ next. Goes words m.now next m.now) }
+        → RefinesJump (jumps code (length s.words) (regs_of m.now s input) address) (regs_of m.now s input) result }
+    ensures goes { IfOk result (λ next. Progresses words m.now next m.now) }
 {
     if address > m.place() {
         m.ahead(u64::from(address), words)
@@ -32,8 +32,8 @@ pub(crate) fn jump(m: &Machine, address: u32, words: u32) -> Result<u32, Stop>
 #[inline(always)]
 pub(crate) fn jump_if_false(m: &Machine, address: u32, words: u32) -> Result<u32, Stop>
     ensures row { (code input : List ℕ) (s : State) (l : ℕ) → length code ≡ words
-        → Comes (effect code (length s.words) (regs_of m.now s input) False l address) (regs_of m.now s input) result }
-    ensures goes { IfOk result (λ next. Goes words m.now next m.now) }
+        → RefinesJump (effect code (length s.words) (regs_of m.now s input) False l address) (regs_of m.now s input) result }
+    ensures goes { IfOk result (λ next. Progresses words m.now next m.now) }
 {
     if m.r() == 0 {
         jump(m, address, words)
@@ -47,10 +47,10 @@ pub(crate) fn jump_if_false(m: &Machine, address: u32, words: u32) -> Result<u32
 #[tactic(auto, using(crate::proofs::MeasureFalls::paid_falls))]
 pub(crate) fn turn(m: &mut Machine, frames: &Frames, address: u32, words: u32) -> Result<u32, Stop>
     ensures row { (code input : List ℕ) (l : ℕ) → frames.now.entered ≡ true → length code ≡ words
-        → Comes (effect code (length frames.now.words) (regs_of m.old frames.now input) Turn l address)
+        → RefinesJump (effect code (length frames.now.words) (regs_of m.old frames.now input) Turn l address)
         (regs_of m.new frames.now input) result }
-    ensures keeps { Keeps m.old m.new }
-    ensures goes { IfOk result (λ next. Goes words m.old next m.new) }
+    ensures keeps { PreservesPlace m.old m.new }
+    ensures goes { IfOk result (λ next. Progresses words m.old next m.new) }
     ensures odd { result ≡ Err Odd → m.new ≡ m.old }
 {
     let word = match local(frames, address) {
@@ -71,10 +71,11 @@ pub(crate) fn turn(m: &mut Machine, frames: &Frames, address: u32, words: u32) -
 /// GO: where R is not 0, charges a step and goes to the label that R and Q are.
 pub(crate) fn go(m: &mut Machine, frames: &mut Frames, words: u32) -> Result<u32, Stop>
     ensures row { (code input : List ℕ) (l a : ℕ) → frames.old.entered ≡ true → length code ≡ words
-        → Comes (effect code (length frames.old.words) (regs_of m.old frames.old input) Go l a) (regs_of m.new frames.new input)
+        → RefinesJump (effect code (length frames.old.words) (regs_of m.old frames.old input) Go l a)
+        (regs_of m.new frames.new input)
         result }
-    ensures keeps { Keeps m.old m.new }
-    ensures goes { IfOk result (λ next. Goes words m.old next m.new) }
+    ensures keeps { PreservesPlace m.old m.new }
+    ensures goes { IfOk result (λ next. Progresses words m.old next m.new) }
     ensures size { length frames.new.words ≡ length frames.old.words }
     ensures odd { result ≡ Err Odd → (m.new ≡ m.old) × (frames.new ≡ frames.old) }
 {
@@ -91,9 +92,10 @@ pub(crate) fn go(m: &mut Machine, frames: &mut Frames, words: u32) -> Result<u32
 fn go_to(m: &mut Machine, frames: &mut Frames, next: u32, words: u32) -> Result<u32, Stop>
     requires { next < words }
     ensures row { (code input : List ℕ) → frames.old.entered ≡ true → length code ≡ words → next ≡ m.old.r
-        → Comes (leaps code (length frames.old.words) (regs_of m.old frames.old input)) (regs_of m.new frames.new input) result }
-    ensures keeps { Keeps m.old m.new }
-    ensures goes { IfOk result (λ at. Goes words m.old at m.new) }
+        → RefinesJump (go_row code (length frames.old.words) (regs_of m.old frames.old input))
+        (regs_of m.new frames.new input) result }
+    ensures keeps { PreservesPlace m.old m.new }
+    ensures goes { IfOk result (λ at. Progresses words m.old at m.new) }
     ensures size { length frames.new.words ≡ length frames.old.words }
     ensures odd { result ≡ Err Odd → (m.new ≡ m.old) × (frames.new ≡ frames.old) }
 {

@@ -3,31 +3,31 @@ ghost use Rattle.std.specs.Prelude.{◌≡◌, ◌+◌, ◌-◌, ◌*◌, ◌/�
 ghost use Rattle.gier_agree.specs.Packed.{kind_in};
 ghost use Rattle.gier_places.specs.Contents.{Agrees};
 ghost use Rattle.gier_order.specs.Flat.Row.{Regs, Row, needs, reads as reads_row};
-ghost use Rattle.gier_order.specs.Flat.Rows.{effect, cell_word, goes as goes_row, is_address, reads_order, agrees as agrees_row, agrees_with};
+ghost use Rattle.gier_order.specs.Flat.Rows.{effect, cell_word, goes as goes_row, is_address, reads_order, agrees as agrees_row};
+ghost use Rattle.gier_order.specs.Flat.Rows.{agrees_with};
 ghost use Rattle.gier_order.specs.Flat.Kinds.{groups_for, formals_handed, is_packed, is_field, all_fit};
 ghost use Rattle.gier_order.specs.declared.operation.Operation.TheVariants.{Agree, ByVal};
 ghost use Rattle.gier_exec.specs.Rows.{regs_of, code_in};
-ghost use Rattle.gier_exec.specs.Following.{Gets};
-ghost use Rattle.gier_exec.specs.Searching.{Searches, Acts};
-ghost use Rattle.gier_exec.specs.Agreeing.{matches};
+ghost use Rattle.gier_exec.specs.Following.{RefinesValue};
+ghost use Rattle.gier_exec.specs.Searching.{RefinesSearch, RefinesReading};
+ghost use Rattle.gier_exec.specs.Agreeing.{match_row};
 ghost use Rattle.gier_word.specs.Cause.{HasRisen};
 ghost use Rattle.gier_order.specs.Codes.{IsOrder};
-ghost use Rattle.gier_exec.specs.Registers.{Registers, Keeps, Goes};
-ghost use Rattle.gier_exec.specs.Reading.{CanRead, Reads, seen};
+ghost use Rattle.gier_exec.specs.Registers.{Registers, PreservesPlace, Progresses};
+ghost use Rattle.gier_exec.specs.Reading.{CanRead, Reads, SamePager, pager_view};
 ghost use Rattle.gier_exec.specs.declared.stop.Miss.TheVariants.{Drum as DrumFailed, Stop as Stopped};
 ghost use Rattle.gier_exec.specs.declared.stop.Stop.TheVariants.{Odd};
 
 use crate::Machine;
 use crate::calls::{fetch_kinds, formals_of};
 use crate::frame::{place_of, read};
+use crate::pager::Pager;
 use crate::reading::{fetch, fetch_order};
 use crate::stop::{Miss, ODD, Stop};
 use gier_agree::{agree, kind_at};
-use gier_best::Trace;
 use gier_drum::Drum;
 use gier_frames::Frames;
-use gier_order::{Object, Order, Recent};
-use gier_places::Places;
+use gier_order::{Object, Order};
 use gier_word::Alarm;
 
 // How many kinds stand in a word.
@@ -51,30 +51,29 @@ pub(crate) fn compare<D: Drum>(
     m: &Machine,
     frames: &Frames,
     object: &Object,
-    drum: &mut D,
-    places: &mut Places,
-    recent: &mut Recent,
-    trace: &mut Trace,
+    pager: &mut Pager<D>,
     order: Order,
 ) -> Result<u32, Miss>
     requires order { IsOrder order }
     requires place { m.now.place < object.now.words }
     requires can { CanRead (2 * object.now.words) object.now
-        (seen D.room D.tracks D.journal D.faults drum.old places.old recent.old trace.old) }
-    ensures row { (tracks : List (List ℕ)) (input : List ℕ) → D.tracks drum.old ≡ Some tracks → Agrees (Some tracks) places.old.held
+        (pager_view D.room D.tracks D.journal D.faults pager.old) }
+    ensures row { (tracks : List (List ℕ)) (input : List ℕ) → D.tracks pager.old.drum.now ≡ Some tracks
+        → Agrees (Some tracks) pager.old.places.now.held
         → frames.now.entered ≡ true
-        → Acts object.now (seen D.room D.tracks D.journal D.faults drum.old places.old recent.old trace.old)
-        (seen D.room D.tracks D.journal D.faults drum.new places.new recent.new trace.new)
+        → RefinesReading object.now (pager_view D.room D.tracks D.journal D.faults pager.old)
+        (pager_view D.room D.tracks D.journal D.faults pager.new)
         (effect (code_in tracks object.now) (length frames.now.words) (regs_of m.now frames.now input) Agree order.level
         order.address) (regs_of m.now frames.now input) result }
-    ensures goes { IfOk result (λ next. Goes object.now.words m.now next m.now) }
+    ensures goes { IfOk result (λ next. Progresses object.now.words m.now next m.now) }
+    ensures same_references { SamePager pager.old pager.new }
     ensures reads { Reads (2 * object.now.words) object.now
-        (seen D.room D.tracks D.journal D.faults drum.old places.old recent.old trace.old)
-        (seen D.room D.tracks D.journal D.faults drum.new places.new recent.new trace.new) }
-    ensures failed { result ≡ Err DrumFailed → HasRisen (D.faults drum.old) (D.faults drum.new) }
+        (pager_view D.room D.tracks D.journal D.faults pager.old)
+        (pager_view D.room D.tracks D.journal D.faults pager.new) }
+    ensures failed { result ≡ Err DrumFailed → HasRisen (D.faults pager.old.drum.now) (D.faults pager.new.drum.now) }
 {
     let list = m.behind();
-    let count = match fetch(object, drum, places, recent, trace, list) {
+    let count = match fetch(object, pager, list) {
         Ok(count) => count,
         Err(miss) => return Err(miss),
     };
@@ -82,7 +81,7 @@ pub(crate) fn compare<D: Drum>(
         Ok(address) => address,
         Err(stop) => return Err(Miss::Stop(stop)),
     };
-    match match_count(object, drum, places, recent, trace, address, count) {
+    match match_count(object, pager, address, count) {
         Ok(()) => {}
         Err(miss) => return Err(miss),
     }
@@ -91,16 +90,7 @@ pub(crate) fn compare<D: Drum>(
         Ok(next) => next,
         Err(stop) => return Err(Miss::Stop(stop)),
     };
-    match compare_groups(
-        object,
-        drum,
-        places,
-        recent,
-        trace,
-        address + 1,
-        list + 1,
-        count,
-    ) {
+    match compare_groups(object, pager, address + 1, list + 1, count) {
         Ok(()) => Ok(next),
         Err(miss) => Err(miss),
     }
@@ -110,7 +100,7 @@ pub(crate) fn compare<D: Drum>(
 fn formal_address(frames: &Frames, order: Order) -> Result<u64, Stop>
     requires { IsOrder order }
     ensures row { (code input : List ℕ) (m : Registers) (go : ℕ → Row) → frames.now.entered ≡ true
-        → Gets (cell_word code (length frames.now.words) (regs_of m frames.now input) order.level order.address
+        → RefinesValue (cell_word code (length frames.now.words) (regs_of m frames.now input) order.level order.address
         (λ place word. go word)) go result }
     ensures small { IfOk result (λ address. address < 2 ^ 40) }
 {
@@ -123,29 +113,27 @@ fn formal_address(frames: &Frames, order: Order) -> Result<u64, Stop>
 // Whether the procedure at an address has so many formals; alarm `parameters` where it has not.
 fn match_count<D: Drum>(
     object: &Object,
-    drum: &mut D,
-    places: &mut Places,
-    recent: &mut Recent,
-    trace: &mut Trace,
+    pager: &mut Pager<D>,
     address: u64,
     count: u64,
 ) -> Result<(), Miss>
-    requires can { CanRead 1 object.now (seen D.room D.tracks D.journal D.faults drum.old places.old recent.old trace.old) }
-    ensures row { (tracks : List (List ℕ)) (size : ℕ) (regs : Regs) (list : ℕ) → D.tracks drum.old ≡ Some tracks
-        → Agrees (Some tracks) places.old.held
-        → Searches object.now (seen D.room D.tracks D.journal D.faults drum.old places.old recent.old trace.old)
-        (seen D.room D.tracks D.journal D.faults drum.new places.new recent.new trace.new)
+    requires can { CanRead 1 object.now (pager_view D.room D.tracks D.journal D.faults pager.old) }
+    ensures row { (tracks : List (List ℕ)) (size : ℕ) (regs : Regs) (list : ℕ) → D.tracks pager.old.drum.now ≡ Some tracks
+        → Agrees (Some tracks) pager.old.places.now.held
+        → RefinesSearch object.now (pager_view D.room D.tracks D.journal D.faults pager.old)
+        (pager_view D.room D.tracks D.journal D.faults pager.new)
         (reads_order (code_in tracks object.now) size regs address
         (λ head. agrees_with (code_in tracks object.now) size regs address list count (formals_handed head))) regs
         (λ done. needs (is_address (code_in tracks object.now) size regs (list + groups_for count))
         (agrees_row (code_in tracks object.now) size regs (groups_for count) (address + 1) list count)) result }
     ensures few { OnOk result (count ≤ 80) }
     ensures some { OnOk result (1 ≤ count) }
-    ensures reads { Reads 1 object.now (seen D.room D.tracks D.journal D.faults drum.old places.old recent.old trace.old)
-        (seen D.room D.tracks D.journal D.faults drum.new places.new recent.new trace.new) }
-    ensures failed { result ≡ Err DrumFailed → HasRisen (D.faults drum.old) (D.faults drum.new) }
+    ensures same_references { SamePager pager.old pager.new }
+    ensures reads { Reads 1 object.now (pager_view D.room D.tracks D.journal D.faults pager.old)
+        (pager_view D.room D.tracks D.journal D.faults pager.new) }
+    ensures failed { result ≡ Err DrumFailed → HasRisen (D.faults pager.old.drum.now) (D.faults pager.new.drum.now) }
 {
-    let head = match fetch_order(object, drum, places, recent, trace, address) {
+    let head = match fetch_order(object, pager, address) {
         Ok(head) => head,
         Err(miss) => return Err(miss),
     };
@@ -165,10 +153,7 @@ fn match_count<D: Drum>(
 // Compares so many kinds, ten by ten, from the words at these two addresses on.
 fn compare_groups<D: Drum>(
     object: &Object,
-    drum: &mut D,
-    places: &mut Places,
-    recent: &mut Recent,
-    trace: &mut Trace,
+    pager: &mut Pager<D>,
     formals: u64,
     actuals: u64,
     count: u64,
@@ -177,25 +162,23 @@ fn compare_groups<D: Drum>(
     requires formals { formals ≤ 2 ^ 40 }
     requires actuals { actuals ≤ 2 ^ 40 }
     requires can { CanRead (2 * ((count + 9) / 10)) object.now
-        (seen D.room D.tracks D.journal D.faults drum.old places.old recent.old trace.old) }
-    ensures row { (tracks : List (List ℕ)) (size : ℕ) (regs : Regs) → D.tracks drum.old ≡ Some tracks
-        → Agrees (Some tracks) places.old.held
-        → Searches object.now (seen D.room D.tracks D.journal D.faults drum.old places.old recent.old trace.old)
-        (seen D.room D.tracks D.journal D.faults drum.new places.new recent.new trace.new)
+        (pager_view D.room D.tracks D.journal D.faults pager.old) }
+    ensures row { (tracks : List (List ℕ)) (size : ℕ) (regs : Regs) → D.tracks pager.old.drum.now ≡ Some tracks
+        → Agrees (Some tracks) pager.old.places.now.held
+        → RefinesSearch object.now (pager_view D.room D.tracks D.journal D.faults pager.old)
+        (pager_view D.room D.tracks D.journal D.faults pager.new)
         (agrees_row (code_in tracks object.now) size regs (groups_for count) formals actuals count) regs
         (λ done. goes_row (code_in tracks object.now) size regs (actuals + groups_for count) regs) result }
+    ensures same_references { SamePager pager.old pager.new }
     ensures reads { Reads (2 * ((count + 9) / 10)) object.now
-        (seen D.room D.tracks D.journal D.faults drum.old places.old recent.old trace.old)
-        (seen D.room D.tracks D.journal D.faults drum.new places.new recent.new trace.new) }
-    ensures failed { result ≡ Err DrumFailed → HasRisen (D.faults drum.old) (D.faults drum.new) }
+        (pager_view D.room D.tracks D.journal D.faults pager.old)
+        (pager_view D.room D.tracks D.journal D.faults pager.new) }
+    ensures failed { result ≡ Err DrumFailed → HasRisen (D.faults pager.old.drum.now) (D.faults pager.new.drum.now) }
 {
     for group in 0..count.div_ceil(GROUP) {
         match compare_group(
             object,
-            drum,
-            places,
-            recent,
-            trace,
+            pager,
             formals + group,
             actuals + group,
             count - group * GROUP,
@@ -210,47 +193,27 @@ fn compare_groups<D: Drum>(
 // Compares the kinds of one word with those of another; so many kinds are left.
 fn compare_group<D: Drum>(
     object: &Object,
-    drum: &mut D,
-    places: &mut Places,
-    recent: &mut Recent,
-    trace: &mut Trace,
+    pager: &mut Pager<D>,
     formals: u64,
     actuals: u64,
     left: u64,
 ) -> Result<(), Miss>
-    requires can { CanRead 2 object.now (seen D.room D.tracks D.journal D.faults drum.old places.old recent.old trace.old) }
-    ensures row { (tracks : List (List ℕ)) (regs : Regs) (next : Row) → D.tracks drum.old ≡ Some tracks
-        → Agrees (Some tracks) places.old.held
-        → Searches object.now (seen D.room D.tracks D.journal D.faults drum.old places.old recent.old trace.old)
-        (seen D.room D.tracks D.journal D.faults drum.new places.new recent.new trace.new)
-        (matches (code_in tracks object.now) regs formals actuals left next) regs (λ done. next) result }
-    ensures reads { Reads 2 object.now (seen D.room D.tracks D.journal D.faults drum.old places.old recent.old trace.old)
-        (seen D.room D.tracks D.journal D.faults drum.new places.new recent.new trace.new) }
-    ensures failed { result ≡ Err DrumFailed → HasRisen (D.faults drum.old) (D.faults drum.new) }
+    requires can { CanRead 2 object.now (pager_view D.room D.tracks D.journal D.faults pager.old) }
+    ensures row { (tracks : List (List ℕ)) (regs : Regs) (next : Row) → D.tracks pager.old.drum.now ≡ Some tracks
+        → Agrees (Some tracks) pager.old.places.now.held
+        → RefinesSearch object.now (pager_view D.room D.tracks D.journal D.faults pager.old)
+        (pager_view D.room D.tracks D.journal D.faults pager.new)
+        (match_row (code_in tracks object.now) regs formals actuals left next) regs (λ done. next) result }
+    ensures same_references { SamePager pager.old pager.new }
+    ensures reads { Reads 2 object.now (pager_view D.room D.tracks D.journal D.faults pager.old)
+        (pager_view D.room D.tracks D.journal D.faults pager.new) }
+    ensures failed { result ≡ Err DrumFailed → HasRisen (D.faults pager.old.drum.now) (D.faults pager.new.drum.now) }
 {
-    let formals = match fetch_packed(
-        object,
-        drum,
-        places,
-        recent,
-        trace,
-        formals,
-        left,
-        FIRST_FORMAL,
-    ) {
+    let formals = match fetch_packed(object, pager, formals, left, FIRST_FORMAL) {
         Ok(word) => word,
         Err(miss) => return Err(miss),
     };
-    let actuals = match fetch_packed(
-        object,
-        drum,
-        places,
-        recent,
-        trace,
-        actuals,
-        left,
-        FIRST_ACTUAL,
-    ) {
+    let actuals = match fetch_packed(object, pager, actuals, left, FIRST_ACTUAL) {
         Ok(word) => word,
         Err(miss) => return Err(miss),
     };
@@ -265,25 +228,23 @@ fn compare_group<D: Drum>(
 // last one isn't 0.
 fn fetch_packed<D: Drum>(
     object: &Object,
-    drum: &mut D,
-    places: &mut Places,
-    recent: &mut Recent,
-    trace: &mut Trace,
+    pager: &mut Pager<D>,
     address: u64,
     left: u64,
     first: u8,
 ) -> Result<u64, Miss>
-    requires can { CanRead 1 object.now (seen D.room D.tracks D.journal D.faults drum.old places.old recent.old trace.old) }
-    ensures row { (tracks : List (List ℕ)) (regs : Regs) (go : ℕ → Row) → D.tracks drum.old ≡ Some tracks
-        → Agrees (Some tracks) places.old.held
-        → Searches object.now (seen D.room D.tracks D.journal D.faults drum.old places.old recent.old trace.old)
-        (seen D.room D.tracks D.journal D.faults drum.new places.new recent.new trace.new)
+    requires can { CanRead 1 object.now (pager_view D.room D.tracks D.journal D.faults pager.old) }
+    ensures row { (tracks : List (List ℕ)) (regs : Regs) (go : ℕ → Row) → D.tracks pager.old.drum.now ≡ Some tracks
+        → Agrees (Some tracks) pager.old.places.now.held
+        → RefinesSearch object.now (pager_view D.room D.tracks D.journal D.faults pager.old)
+        (pager_view D.room D.tracks D.journal D.faults pager.new)
         (reads_row (code_in tracks object.now) address (λ word. needs (is_packed first left word) (go word))) regs go result }
-    ensures reads { Reads 1 object.now (seen D.room D.tracks D.journal D.faults drum.old places.old recent.old trace.old)
-        (seen D.room D.tracks D.journal D.faults drum.new places.new recent.new trace.new) }
-    ensures failed { result ≡ Err DrumFailed → HasRisen (D.faults drum.old) (D.faults drum.new) }
+    ensures same_references { SamePager pager.old pager.new }
+    ensures reads { Reads 1 object.now (pager_view D.room D.tracks D.journal D.faults pager.old)
+        (pager_view D.room D.tracks D.journal D.faults pager.new) }
+    ensures failed { result ≡ Err DrumFailed → HasRisen (D.faults pager.old.drum.now) (D.faults pager.new.drum.now) }
 {
-    let word = match fetch(object, drum, places, recent, trace, address) {
+    let word = match fetch(object, pager, address) {
         Ok(word) => word,
         Err(miss) => return Err(miss),
     };
@@ -331,33 +292,32 @@ pub(crate) fn look_at_kind<D: Drum>(
     m: &mut Machine,
     frames: &Frames,
     object: &Object,
-    drum: &mut D,
-    places: &mut Places,
-    recent: &mut Recent,
-    trace: &mut Trace,
+    pager: &mut Pager<D>,
     order: Order,
 ) -> Result<u32, Miss>
     requires order { IsOrder order }
     requires place { m.old.place < object.now.words }
-    requires can { CanRead 2 object.now (seen D.room D.tracks D.journal D.faults drum.old places.old recent.old trace.old) }
-    ensures row { (tracks : List (List ℕ)) (input : List ℕ) → D.tracks drum.old ≡ Some tracks → Agrees (Some tracks) places.old.held
+    requires can { CanRead 2 object.now (pager_view D.room D.tracks D.journal D.faults pager.old) }
+    ensures row { (tracks : List (List ℕ)) (input : List ℕ) → D.tracks pager.old.drum.now ≡ Some tracks
+        → Agrees (Some tracks) pager.old.places.now.held
         → frames.now.entered ≡ true
-        → Acts object.now (seen D.room D.tracks D.journal D.faults drum.old places.old recent.old trace.old)
-        (seen D.room D.tracks D.journal D.faults drum.new places.new recent.new trace.new)
+        → RefinesReading object.now (pager_view D.room D.tracks D.journal D.faults pager.old)
+        (pager_view D.room D.tracks D.journal D.faults pager.new)
         (effect (code_in tracks object.now) (length frames.now.words) (regs_of m.old frames.now input) ByVal order.level
         order.address) (regs_of m.new frames.now input) result }
-    ensures keeps { Keeps m.old m.new }
-    ensures goes { IfOk result (λ next. Goes object.now.words m.old next m.new) }
-    ensures reads { Reads 2 object.now (seen D.room D.tracks D.journal D.faults drum.old places.old recent.old trace.old)
-        (seen D.room D.tracks D.journal D.faults drum.new places.new recent.new trace.new) }
-    ensures failed { result ≡ Err DrumFailed → HasRisen (D.faults drum.old) (D.faults drum.new) }
+    ensures keeps { PreservesPlace m.old m.new }
+    ensures goes { IfOk result (λ next. Progresses object.now.words m.old next m.new) }
+    ensures same_references { SamePager pager.old pager.new }
+    ensures reads { Reads 2 object.now (pager_view D.room D.tracks D.journal D.faults pager.old)
+        (pager_view D.room D.tracks D.journal D.faults pager.new) }
+    ensures failed { result ≡ Err DrumFailed → HasRisen (D.faults pager.old.drum.now) (D.faults pager.new.drum.now) }
     ensures odd { result ≡ Err (Stopped Odd) → m.new ≡ m.old }
 {
     let address = match formal_address(frames, order) {
         Ok(address) => address,
         Err(stop) => return Err(Miss::Stop(stop)),
     };
-    let kinds = match fetch_kinds(object, drum, places, recent, trace, address) {
+    let kinds = match fetch_kinds(object, pager, address) {
         Ok(kinds) => kinds,
         Err(miss) => return Err(miss),
     };
@@ -370,7 +330,7 @@ pub(crate) fn look_at_kind<D: Drum>(
         Err(stop) => return Err(Miss::Stop(stop)),
     };
     let at = m.r() - 1;
-    let kind = match fetch_kind(object, drum, places, recent, trace, address + 1, at, count) {
+    let kind = match fetch_kind(object, pager, address + 1, at, count) {
         Ok(kind) => kind,
         Err(miss) => return Err(miss),
     };
@@ -381,10 +341,7 @@ pub(crate) fn look_at_kind<D: Drum>(
 // The kind with a number, from 0, of so many that are packed from an address on.
 fn fetch_kind<D: Drum>(
     object: &Object,
-    drum: &mut D,
-    places: &mut Places,
-    recent: &mut Recent,
-    trace: &mut Trace,
+    pager: &mut Pager<D>,
     list: u64,
     at: u64,
     count: u64,
@@ -392,24 +349,22 @@ fn fetch_kind<D: Drum>(
     requires within { at < count }
     requires few { count ≤ 80 }
     requires list { list ≤ 2 ^ 40 }
-    requires can { CanRead 1 object.now (seen D.room D.tracks D.journal D.faults drum.old places.old recent.old trace.old) }
-    ensures row { (tracks : List (List ℕ)) (regs : Regs) (go : ℕ → Row) → D.tracks drum.old ≡ Some tracks
-        → Agrees (Some tracks) places.old.held
-        → Searches object.now (seen D.room D.tracks D.journal D.faults drum.old places.old recent.old trace.old)
-        (seen D.room D.tracks D.journal D.faults drum.new places.new recent.new trace.new)
+    requires can { CanRead 1 object.now (pager_view D.room D.tracks D.journal D.faults pager.old) }
+    ensures row { (tracks : List (List ℕ)) (regs : Regs) (go : ℕ → Row) → D.tracks pager.old.drum.now ≡ Some tracks
+        → Agrees (Some tracks) pager.old.places.now.held
+        → RefinesSearch object.now (pager_view D.room D.tracks D.journal D.faults pager.old)
+        (pager_view D.room D.tracks D.journal D.faults pager.new)
         (reads_row (code_in tracks object.now) (list + at / 10)
         (λ word. needs (is_packed 1 (count - at / 10 * 10) word) (go (kind_in word (at % 10))))) regs go result }
-    ensures reads { Reads 1 object.now (seen D.room D.tracks D.journal D.faults drum.old places.old recent.old trace.old)
-        (seen D.room D.tracks D.journal D.faults drum.new places.new recent.new trace.new) }
-    ensures failed { result ≡ Err DrumFailed → HasRisen (D.faults drum.old) (D.faults drum.new) }
+    ensures same_references { SamePager pager.old pager.new }
+    ensures reads { Reads 1 object.now (pager_view D.room D.tracks D.journal D.faults pager.old)
+        (pager_view D.room D.tracks D.journal D.faults pager.new) }
+    ensures failed { result ≡ Err DrumFailed → HasRisen (D.faults pager.old.drum.now) (D.faults pager.new.drum.now) }
 {
     let group = at / GROUP;
     match fetch_packed(
         object,
-        drum,
-        places,
-        recent,
-        trace,
+        pager,
         list + group,
         count - group * GROUP,
         FIRST_FORMAL,

@@ -12,6 +12,7 @@ mod kinds;
 mod library;
 mod machine;
 mod number;
+mod pager;
 mod reading;
 mod step;
 mod stop;

@@ -1,5 +1,6 @@
 // The standard procedures, on R, on the data and on the printer.
-ghost use Rattle.std.specs.Prelude.{◌≡◌, ◌≢◌, ◌+◌, ◌*◌, ◌/◌, ◌%◌, ◌<◌, ◌≤◌, ◌^◌, ◌++◌, ℕ, List, [], min, take, length, Some, IfOk, Ok, Err};
+ghost use Rattle.std.specs.Prelude.{◌≡◌, ◌≢◌, ◌+◌, ◌*◌, ◌/◌, ◌%◌, ◌<◌, ◌≤◌, ◌^◌, ◌++◌, ℕ, List, [], min, take, length, Some};
+ghost use Rattle.std.specs.Prelude.{IfOk, Ok, Err};
 ghost use Rattle.gier_word.specs.Cause.{HasCause, HasRisen};
 ghost use Rattle.gier_word.specs.Words.{int_of_word};
 ghost use Rattle.gier_word.specs.Standard.{integer_text, character_text, integer_read, character_read};
@@ -12,24 +13,23 @@ ghost use Rattle.gier_order.specs.Flat.Row.{Regs, Row, reads, behind_bytes};
 ghost use Rattle.gier_order.specs.Flat.Rows.{bytes_of as bytes_in, piece, on, prints_words, prints_string, procedure};
 ghost use Rattle.gier_exec.specs.Rows.{regs_of, code_in};
 ghost use Rattle.gier_exec.specs.References.{Refers};
-ghost use Rattle.gier_exec.specs.Turning.{IsRest, Obeys};
+ghost use Rattle.gier_exec.specs.Turning.{IsRest, RefinesExecution};
 ghost use Rattle.gier_exec.specs.Standards.{on_from, Sends, Computes, Receives, PrintsOn};
-ghost use Rattle.gier_exec.specs.Registers.{Keeps, weight};
-ghost use Rattle.gier_exec.specs.Reading.{CanRead, Reads, seen};
+ghost use Rattle.gier_exec.specs.Registers.{PreservesPlace, weight};
+ghost use Rattle.gier_exec.specs.Reading.{CanRead, Reads, SamePager, pager_view};
 ghost use Rattle.gier_exec.specs.declared.stop.Miss.TheVariants.{Drum as DrumFailed, Stop as Stopped};
 ghost use Rattle.gier_exec.specs.declared.stop.Quit.TheVariants.{Miss as Missed, Read, Write};
 ghost use Rattle.gier_exec.specs.declared.stop.Stop.TheVariants.{Alarm as Alarmed, Odd};
 
 use crate::Machine;
 use crate::number::{number_of, word_of};
+use crate::pager::Pager;
 use crate::reading::fetch;
 use crate::stop::{Miss, ODD, Quit, Stop};
-use gier_best::Trace;
 use gier_drum::Drum;
 use gier_io::{Sink, Source};
 use gier_library::{Data, InStop, OutStop, in_char, in_integer, out_bytes, out_char, out_integer};
-use gier_order::{Object, Recent};
-use gier_places::Places;
+use gier_order::Object;
 use gier_word::{Alarm, Int40, Spoil};
 
 // The numbers of the standard procedures.
@@ -59,41 +59,40 @@ const VALUES: u64 = 256;
 pub(crate) fn library<D: Drum, S: Source, K: Sink>(
     m: &mut Machine,
     object: &Object,
-    drum: &mut D,
-    places: &mut Places,
-    recent: &mut Recent,
-    trace: &mut Trace,
+    pager: &mut Pager<D>,
     input: &mut Data<S>,
     out: &mut K,
     number: u32,
 ) -> Result<(), Quit>
     requires can { CanRead (object.now.words + 1) object.now
-        (seen D.room D.tracks D.journal D.faults drum.old places.old recent.old trace.old) }
-    ensures row { (tracks : List (List ℕ)) → D.tracks drum.old ≡ Some tracks → Agrees (Some tracks) places.old.held
+        (pager_view D.room D.tracks D.journal D.faults pager.old) }
+    ensures row { (tracks : List (List ℕ)) → D.tracks pager.old.drum.now ≡ Some tracks
+        → Agrees (Some tracks) pager.old.places.now.held
         → m.old.place + 1 < object.now.words
         → (read put taken : List ℕ) × Refers object.now read
-        (seen D.room D.tracks D.journal D.faults drum.old places.old recent.old trace.old)
-        (seen D.room D.tracks D.journal D.faults drum.new places.new recent.new trace.new)
+        (pager_view D.room D.tracks D.journal D.faults pager.old)
+        (pager_view D.room D.tracks D.journal D.faults pager.new)
         × Puts (K.holds out.old) put (K.holds out.new) × Takes (stand_of S.left input.old) taken (stand_of S.left input.new)
         × ((s : State) (rest : List ℕ) → IsRest (has_ended input.new) rest
-        → Obeys (procedure (code_in tracks object.now) (length s.words) (regs_of m.old s (taken ++ rest)) number)
+        → RefinesExecution (procedure (code_in tracks object.now) (length s.words) (regs_of m.old s (taken ++ rest)) number)
         (regs_of m.old s (taken ++ rest)) (regs_of m.new s rest) read put taken (on_from m.old.place result)) }
-    ensures keeps { Keeps m.old m.new }
+    ensures keeps { PreservesPlace m.old m.new }
     ensures lighter { weight m.new ≤ weight m.old }
+    ensures same_references { SamePager pager.old pager.new }
     ensures reads { Reads (object.now.words + 1) object.now
-        (seen D.room D.tracks D.journal D.faults drum.old places.old recent.old trace.old)
-        (seen D.room D.tracks D.journal D.faults drum.new places.new recent.new trace.new) }
+        (pager_view D.room D.tracks D.journal D.faults pager.old)
+        (pager_view D.room D.tracks D.journal D.faults pager.new) }
     ensures same_reference { input.new.source.ghost_name ≡ input.old.source.ghost_name }
     ensures source_later { S.faults (source_of input.old) ≤ S.faults (source_of input.new) }
     ensures source_failed { result ≡ Err Read → HasRisen (S.faults (source_of input.old)) (S.faults (source_of input.new)) }
     ensures sink_later { K.faults out.old ≤ K.faults out.new }
     ensures sink_failed { result ≡ Err Write → HasRisen (K.faults out.old) (K.faults out.new) }
-    ensures failed { result ≡ Err (Missed DrumFailed) → HasRisen (D.faults drum.old) (D.faults drum.new) }
+    ensures failed { result ≡ Err (Missed DrumFailed) → HasRisen (D.faults pager.old.drum.now) (D.faults pager.new.drum.now) }
     ensures odd { result ≡ Err (Missed (Stopped Odd)) → (m.new ≡ m.old) × ((out.new ≡ out.old) × (input.new ≡ input.old)) }
 {
     match number {
         OUT_INTEGER => print_integer(m.r(), out),
-        OUT_TEXT => print_text(object, drum, places, recent, trace, out, m.r()),
+        OUT_TEXT => print_text(object, pager, out, m.r()),
         OUT_CR => print_bytes(b"\n", out),
         OUT_CHAR => print_character(m.r(), out),
         IN_INTEGER => take_integer(m, input),
@@ -165,7 +164,7 @@ fn take_integer<S: Source>(m: &mut Machine, input: &mut Data<S>) -> Result<(), Q
         × Receives integer_read bytes (has_ended input.new) m.old result m.new }
     ensures homely { result ≢ Err (Missed DrumFailed) }
     ensures no_write { result ≢ Err Write }
-    ensures keeps { Keeps m.old m.new }
+    ensures keeps { PreservesPlace m.old m.new }
     ensures lighter { weight m.new ≤ weight m.old }
     ensures same_reference { input.new.source.ghost_name ≡ input.old.source.ghost_name }
     ensures source_later { S.faults (source_of input.old) ≤ S.faults (source_of input.new) }
@@ -188,7 +187,7 @@ fn take_character<S: Source>(m: &mut Machine, input: &mut Data<S>) -> Result<(),
         × Receives character_read bytes (has_ended input.new) m.old result m.new }
     ensures homely { result ≢ Err (Missed DrumFailed) }
     ensures no_write { result ≢ Err Write }
-    ensures keeps { Keeps m.old m.new }
+    ensures keeps { PreservesPlace m.old m.new }
     ensures lighter { weight m.new ≤ weight m.old }
     ensures same_reference { input.new.source.ghost_name ≡ input.old.source.ghost_name }
     ensures source_later { S.faults (source_of input.old) ≤ S.faults (source_of input.new) }
@@ -210,7 +209,7 @@ fn compute(m: &mut Machine, given: Result<Int40, Spoil>) -> Result<(), Quit>
     ensures homely { result ≢ Err (Missed DrumFailed) }
     ensures no_read { result ≢ Err Read }
     ensures no_write { result ≢ Err Write }
-    ensures keeps { Keeps m.old m.new }
+    ensures keeps { PreservesPlace m.old m.new }
     ensures lighter { weight m.new ≤ weight m.old }
     ensures no_odd { result ≢ Err (Missed (Stopped Odd)) }
 {
@@ -226,58 +225,45 @@ fn compute(m: &mut Machine, given: Result<Int40, Spoil>) -> Result<(), Quit>
 // `outtext`: the string whose number of bytes stands at an address.
 fn print_text<D: Drum, K: Sink>(
     object: &Object,
-    drum: &mut D,
-    places: &mut Places,
-    recent: &mut Recent,
-    trace: &mut Trace,
+    pager: &mut Pager<D>,
     out: &mut K,
     address: u64,
 ) -> Result<(), Quit>
     requires address { address < 2 ^ 40 }
     requires can { CanRead (object.now.words + 1) object.now
-        (seen D.room D.tracks D.journal D.faults drum.old places.old recent.old trace.old) }
-    ensures row { (tracks : List (List ℕ)) → D.tracks drum.old ≡ Some tracks → Agrees (Some tracks) places.old.held
+        (pager_view D.room D.tracks D.journal D.faults pager.old) }
+    ensures row { (tracks : List (List ℕ)) → D.tracks pager.old.drum.now ≡ Some tracks
+        → Agrees (Some tracks) pager.old.places.now.held
         → (read put : List ℕ) × Refers object.now read
-        (seen D.room D.tracks D.journal D.faults drum.old places.old recent.old trace.old)
-        (seen D.room D.tracks D.journal D.faults drum.new places.new recent.new trace.new)
+        (pager_view D.room D.tracks D.journal D.faults pager.old)
+        (pager_view D.room D.tracks D.journal D.faults pager.new)
         × Puts (K.holds out.old) put (K.holds out.new)
         × ((size : ℕ) (regs : Regs) → PrintsOn (prints_string (code_in tracks object.now) size regs address)
         (on (code_in tracks object.now) size regs regs) read put result) }
     ensures no_read { result ≢ Err Read }
+    ensures same_references { SamePager pager.old pager.new }
     ensures reads { Reads (object.now.words + 1) object.now
-        (seen D.room D.tracks D.journal D.faults drum.old places.old recent.old trace.old)
-        (seen D.room D.tracks D.journal D.faults drum.new places.new recent.new trace.new) }
+        (pager_view D.room D.tracks D.journal D.faults pager.old)
+        (pager_view D.room D.tracks D.journal D.faults pager.new) }
     ensures sink_later { K.faults out.old ≤ K.faults out.new }
     ensures sink_failed { result ≡ Err Write → HasRisen (K.faults out.old) (K.faults out.new) }
-    ensures failed { result ≡ Err (Missed DrumFailed) → HasRisen (D.faults drum.old) (D.faults drum.new) }
+    ensures failed { result ≡ Err (Missed DrumFailed) → HasRisen (D.faults pager.old.drum.now) (D.faults pager.new.drum.now) }
     ensures odd { result ≡ Err (Missed (Stopped Odd)) → out.new ≡ out.old }
 {
-    let length = match fetch(object, drum, places, recent, trace, address) {
+    let length = match fetch(object, pager, address) {
         Ok(length) => length,
         Err(miss) => return Err(Quit::Miss(miss)),
     };
     if address + length.div_ceil(BYTES) >= u64::from(object.words) {
         return Err(Quit::Miss(ODD));
     }
-    print_words(
-        object,
-        drum,
-        places,
-        recent,
-        trace,
-        out,
-        address + 1,
-        length,
-    )
+    print_words(object, pager, out, address + 1, length)
 }
 
 // So many bytes from the word at an address on; each word's are printed before the next one is read.
 fn print_words<D: Drum, K: Sink>(
     object: &Object,
-    drum: &mut D,
-    places: &mut Places,
-    recent: &mut Recent,
-    trace: &mut Trace,
+    pager: &mut Pager<D>,
     out: &mut K,
     address: u64,
     length: u64,
@@ -285,34 +271,27 @@ fn print_words<D: Drum, K: Sink>(
     requires length { length < 2 ^ 40 }
     requires within { address + (length + 4) / 5 ≤ object.now.words }
     requires can { CanRead ((length + 4) / 5) object.now
-        (seen D.room D.tracks D.journal D.faults drum.old places.old recent.old trace.old) }
-    ensures row { (tracks : List (List ℕ)) → D.tracks drum.old ≡ Some tracks → Agrees (Some tracks) places.old.held
+        (pager_view D.room D.tracks D.journal D.faults pager.old) }
+    ensures row { (tracks : List (List ℕ)) → D.tracks pager.old.drum.now ≡ Some tracks
+        → Agrees (Some tracks) pager.old.places.now.held
         → (read put : List ℕ) × Refers object.now read
-        (seen D.room D.tracks D.journal D.faults drum.old places.old recent.old trace.old)
-        (seen D.room D.tracks D.journal D.faults drum.new places.new recent.new trace.new)
+        (pager_view D.room D.tracks D.journal D.faults pager.old)
+        (pager_view D.room D.tracks D.journal D.faults pager.new)
         × Puts (K.holds out.old) put (K.holds out.new)
         × ((size : ℕ) (regs : Regs) → PrintsOn (prints_words (code_in tracks object.now) size regs ((length + 4) / 5) address
         length) (on (code_in tracks object.now) size regs regs) read put result) }
     ensures no_read { result ≢ Err Read }
+    ensures same_references { SamePager pager.old pager.new }
     ensures reads { Reads ((length + 4) / 5) object.now
-        (seen D.room D.tracks D.journal D.faults drum.old places.old recent.old trace.old)
-        (seen D.room D.tracks D.journal D.faults drum.new places.new recent.new trace.new) }
+        (pager_view D.room D.tracks D.journal D.faults pager.old)
+        (pager_view D.room D.tracks D.journal D.faults pager.new) }
     ensures sink_later { K.faults out.old ≤ K.faults out.new }
     ensures sink_failed { result ≡ Err Write → HasRisen (K.faults out.old) (K.faults out.new) }
-    ensures failed { result ≡ Err (Missed DrumFailed) → HasRisen (D.faults drum.old) (D.faults drum.new) }
+    ensures failed { result ≡ Err (Missed DrumFailed) → HasRisen (D.faults pager.old.drum.now) (D.faults pager.new.drum.now) }
     ensures no_odd { result ≢ Err (Missed (Stopped Odd)) }
 {
     for at in 0..length.div_ceil(BYTES) {
-        match print_word(
-            object,
-            drum,
-            places,
-            recent,
-            trace,
-            out,
-            address + at,
-            length - at * BYTES,
-        ) {
+        match print_word(object, pager, out, address + at, length - at * BYTES) {
             Ok(()) => {}
             Err(quit) => return Err(quit),
         }
@@ -323,31 +302,30 @@ fn print_words<D: Drum, K: Sink>(
 // The bytes of one word, of which so many are left.
 fn print_word<D: Drum, K: Sink>(
     object: &Object,
-    drum: &mut D,
-    places: &mut Places,
-    recent: &mut Recent,
-    trace: &mut Trace,
+    pager: &mut Pager<D>,
     out: &mut K,
     address: u64,
     left: u64,
 ) -> Result<(), Quit>
-    requires can { CanRead 1 object.now (seen D.room D.tracks D.journal D.faults drum.old places.old recent.old trace.old) }
-    ensures row { (tracks : List (List ℕ)) → D.tracks drum.old ≡ Some tracks → Agrees (Some tracks) places.old.held
+    requires can { CanRead 1 object.now (pager_view D.room D.tracks D.journal D.faults pager.old) }
+    ensures row { (tracks : List (List ℕ)) → D.tracks pager.old.drum.now ≡ Some tracks
+        → Agrees (Some tracks) pager.old.places.now.held
         → (read put : List ℕ) × Refers object.now read
-        (seen D.room D.tracks D.journal D.faults drum.old places.old recent.old trace.old)
-        (seen D.room D.tracks D.journal D.faults drum.new places.new recent.new trace.new)
+        (pager_view D.room D.tracks D.journal D.faults pager.old)
+        (pager_view D.room D.tracks D.journal D.faults pager.new)
         × Puts (K.holds out.old) put (K.holds out.new)
         × ((go : Row) → PrintsOn (reads (code_in tracks object.now) address
         (λ word. behind_bytes (take (min left piece) (bytes_in word)) go)) go read put result) }
     ensures no_read { result ≢ Err Read }
-    ensures reads { Reads 1 object.now (seen D.room D.tracks D.journal D.faults drum.old places.old recent.old trace.old)
-        (seen D.room D.tracks D.journal D.faults drum.new places.new recent.new trace.new) }
+    ensures same_references { SamePager pager.old pager.new }
+    ensures reads { Reads 1 object.now (pager_view D.room D.tracks D.journal D.faults pager.old)
+        (pager_view D.room D.tracks D.journal D.faults pager.new) }
     ensures sink_later { K.faults out.old ≤ K.faults out.new }
     ensures sink_failed { result ≡ Err Write → HasRisen (K.faults out.old) (K.faults out.new) }
-    ensures failed { result ≡ Err (Missed DrumFailed) → HasRisen (D.faults drum.old) (D.faults drum.new) }
+    ensures failed { result ≡ Err (Missed DrumFailed) → HasRisen (D.faults pager.old.drum.now) (D.faults pager.new.drum.now) }
     ensures odd { result ≡ Err (Missed (Stopped Odd)) → object.now.words ≤ address }
 {
-    match fetch(object, drum, places, recent, trace, address) {
+    match fetch(object, pager, address) {
         Ok(word) => print_bytes(&bytes_of(word)[..left.min(BYTES) as usize], out),
         Err(miss) => Err(Quit::Miss(miss)),
     }

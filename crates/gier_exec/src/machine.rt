@@ -1,7 +1,7 @@
 // The registers of the machine. What the orders do to them is said elsewhere.
 ghost use Rattle.std.specs.Prelude.{◌≡◌, ◌+◌, ◌-◌, ◌<◌, ◌≤◌, ◌^◌, nat_lt, if◌then◌else◌, Ok, Err, IfOk};
 ghost use Rattle.gier_exec.specs.declared.stop.Stop.TheVariants.{Odd};
-ghost use Rattle.gier_exec.specs.Registers.{begun_at, Goes};
+ghost use Rattle.gier_exec.specs.Registers.{first_registers, Progresses};
 
 use crate::stop::Stop;
 use std::marker::Model;
@@ -30,7 +30,7 @@ impl Model for Machine {
 impl Machine {
     /// A machine whose next order stands at `start`, with so many steps left; all else is 0.
     pub fn new(start: u32, steps: u64) -> Machine
-        ensures { result ≡ begun_at start steps }
+        ensures { result ≡ first_registers start steps }
     {
         Machine {
             place: start,
@@ -152,7 +152,7 @@ impl Machine {
     #[tactic(auto, using(crate::proofs::MeasureFalls::ahead_falls))]
     pub(crate) fn ahead(&self, next: u64, words: u32) -> Result<u32, Stop>
         requires { self.now.place < next }
-        ensures goes { IfOk result (λ address. (address ≡ next) × Goes words self.now address self.now) }
+        ensures goes { IfOk result (λ address. (address ≡ next) × Progresses words self.now address self.now) }
         ensures value { result ≡ (if nat_lt next words then Ok next else Err Odd) }
     {
         if next < u64::from(words) {

@@ -2,7 +2,7 @@
 ghost use Rattle.std.specs.Prelude.{◌≡◌, ◌<◌, ◌^◌, true, IfOk};
 ghost use Rattle.gier_word.specs.Words.{int_of_word, word_of_int};
 ghost use Rattle.gier_word.specs.Operations.{negative_of, product_of, sign_of};
-ghost use Rattle.gier_exec.specs.Numbers.{worded, signed, arithmetic, is_test, test, is_combined, combination};
+ghost use Rattle.gier_exec.specs.Numbers.{word_result, sign_result, arithmetic, is_test, test, is_combined, combination};
 
 use gier_order::Operation;
 use gier_word::{Alarm, Int40, Spoil, Word40};
@@ -31,7 +31,7 @@ pub(crate) fn word_of(number: Int40) -> u64
 // The word of a result, or the alarm in its place.
 #[inline(always)]
 fn answer(given: Result<Int40, Spoil>) -> Result<u64, Alarm>
-    ensures value { result ≡ worded given }
+    ensures value { result ≡ word_result given }
     ensures small { IfOk result (λ word. word < 2 ^ 40) }
 {
     match given {
@@ -43,7 +43,7 @@ fn answer(given: Result<Int40, Spoil>) -> Result<u64, Alarm>
 /// NEG.
 pub(crate) fn negative(r: u64) -> Result<u64, Alarm>
     requires { r < 2 ^ 40 }
-    ensures value { result ≡ worded (negative_of (int_of_word r)) }
+    ensures value { result ≡ word_result (negative_of (int_of_word r)) }
     ensures small { IfOk result (λ word. word < 2 ^ 40) }
 {
     answer(number_of(r).neg())
@@ -54,7 +54,7 @@ pub(crate) fn negative(r: u64) -> Result<u64, Alarm>
 pub(crate) fn tested(w: u64, r: u64) -> Result<u64, Alarm>
     requires w { w < 2 ^ 40 }
     requires r { r < 2 ^ 40 }
-    ensures value { result ≡ signed (product_of (int_of_word w) (sign_of (int_of_word r))) }
+    ensures value { result ≡ sign_result (product_of (int_of_word w) (sign_of (int_of_word r))) }
     ensures small { IfOk result (λ word. word < 2 ^ 40) }
 {
     match number_of(w).mul(number_of(r).sign()) {

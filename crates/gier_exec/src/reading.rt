@@ -4,21 +4,20 @@ ghost use Rattle.gier_order.specs.declared.order.Order.{Order};
 ghost use Rattle.gier_order.specs.Flat.Row.{Regs, Row, needs, reads};
 ghost use Rattle.gier_order.specs.Flat.Rows.{reads_order};
 ghost use Rattle.gier_order.specs.Flat.Kinds.{is_a};
-ghost use Rattle.gier_exec.specs.Searching.{Searches};
+ghost use Rattle.gier_exec.specs.Searching.{RefinesSearch};
 ghost use Rattle.gier_places.specs.Contents.{Agrees};
 ghost use Rattle.gier_exec.specs.Rows.{word_in, code_in};
-ghost use Rattle.gier_exec.specs.References.{Refers, Fetches, read_at, fetched_at};
+ghost use Rattle.gier_exec.specs.References.{Refers, RefinesFetch, read_at, fetched_at};
 ghost use Rattle.gier_word.specs.Cause.{HasCause, HasRisen};
 ghost use Rattle.gier_order.specs.Codes.{IsOrder};
-ghost use Rattle.gier_exec.specs.Reading.{CanRead, Reads, seen};
+ghost use Rattle.gier_exec.specs.Reading.{CanRead, Reads, SamePager, pager_view};
 ghost use Rattle.gier_exec.specs.declared.stop.Miss.TheVariants.{Drum as DrumFailed, Stop as Stopped};
 ghost use Rattle.gier_exec.specs.declared.stop.Stop.TheVariants.{Odd};
 
+use crate::pager::Pager;
 use crate::stop::{Miss, ODD};
-use gier_best::Trace;
 use gier_drum::Drum;
-use gier_order::{Object, Operation, Order, Recent};
-use gier_places::Places;
+use gier_order::{Object, Operation, Order};
 use gier_word::Failed;
 
 // How many words a track has.
@@ -28,31 +27,30 @@ const TRACK: u32 = 40;
 #[inline(always)]
 pub(crate) fn read_word<D: Drum>(
     object: &Object,
-    drum: &mut D,
-    places: &mut Places,
-    recent: &mut Recent,
-    trace: &mut Trace,
+    pager: &mut Pager<D>,
     address: u32,
 ) -> Result<u64, Failed>
-    requires can { CanRead 1 object.now (seen D.room D.tracks D.journal D.faults drum.old places.old recent.old trace.old) }
+    requires can { CanRead 1 object.now (pager_view D.room D.tracks D.journal D.faults pager.old) }
     requires within { address < object.now.words }
-    ensures reads { Reads 1 object.now (seen D.room D.tracks D.journal D.faults drum.old places.old recent.old trace.old)
-        (seen D.room D.tracks D.journal D.faults drum.new places.new recent.new trace.new) }
+    ensures same_references { SamePager pager.old pager.new }
+    ensures reads { Reads 1 object.now (pager_view D.room D.tracks D.journal D.faults pager.old)
+        (pager_view D.room D.tracks D.journal D.faults pager.new) }
     ensures small { IfOk result (λ word. word < 2 ^ 40) }
     ensures refers { Refers object.now (read_at address result)
-        (seen D.room D.tracks D.journal D.faults drum.old places.old recent.old trace.old)
-        (seen D.room D.tracks D.journal D.faults drum.new places.new recent.new trace.new) }
-    ensures word { (tracks : List (List ℕ)) → D.tracks drum.old ≡ Some tracks → Agrees (Some tracks) places.old.held
+        (pager_view D.room D.tracks D.journal D.faults pager.old)
+        (pager_view D.room D.tracks D.journal D.faults pager.new) }
+    ensures word { (tracks : List (List ℕ)) → D.tracks pager.old.drum.now ≡ Some tracks
+        → Agrees (Some tracks) pager.old.places.now.held
         → IfOk result (λ word. word ≡ word_in tracks object.now address) }
-    ensures cause { HasCause (D.faults drum.old) (D.faults drum.new) result }
+    ensures cause { HasCause (D.faults pager.old.drum.now) (D.faults pager.new.drum.now) result }
 {
     let track = address / TRACK;
-    let word = match places.refer(object.first_track + track, drum) {
+    let word = match pager.places.refer(object.first_track + track, pager.drum) {
         Ok(words) => words[(address % TRACK) as usize],
         Err(failed) => return Err(failed),
     };
-    recent.refer(object.first_track + track);
-    trace.note(track);
+    pager.recent.refer(object.first_track + track);
+    pager.trace.note(track);
     Ok(word)
 }
 
@@ -61,29 +59,28 @@ pub(crate) fn read_word<D: Drum>(
 #[tactic(auto, using(crate::proofs::Referrings::refers_none, crate::proofs::Referrings::word_read, crate::proofs::Referrings::word_past))]
 pub(crate) fn fetch<D: Drum>(
     object: &Object,
-    drum: &mut D,
-    places: &mut Places,
-    recent: &mut Recent,
-    trace: &mut Trace,
+    pager: &mut Pager<D>,
     address: u64,
 ) -> Result<u64, Miss>
-    requires can { CanRead 1 object.now (seen D.room D.tracks D.journal D.faults drum.old places.old recent.old trace.old) }
-    ensures reads { Reads 1 object.now (seen D.room D.tracks D.journal D.faults drum.old places.old recent.old trace.old)
-        (seen D.room D.tracks D.journal D.faults drum.new places.new recent.new trace.new) }
+    requires can { CanRead 1 object.now (pager_view D.room D.tracks D.journal D.faults pager.old) }
+    ensures same_references { SamePager pager.old pager.new }
+    ensures reads { Reads 1 object.now (pager_view D.room D.tracks D.journal D.faults pager.old)
+        (pager_view D.room D.tracks D.journal D.faults pager.new) }
     ensures small { IfOk result (λ word. word < 2 ^ 40) }
     ensures refers { Refers object.now (fetched_at address result)
-        (seen D.room D.tracks D.journal D.faults drum.old places.old recent.old trace.old)
-        (seen D.room D.tracks D.journal D.faults drum.new places.new recent.new trace.new) }
-    ensures row { (tracks : List (List ℕ)) → D.tracks drum.old ≡ Some tracks → Agrees (Some tracks) places.old.held → (go : ℕ → Row)
-        → Fetches (reads (code_in tracks object.now) address go) go address result }
+        (pager_view D.room D.tracks D.journal D.faults pager.old)
+        (pager_view D.room D.tracks D.journal D.faults pager.new) }
+    ensures row { (tracks : List (List ℕ)) → D.tracks pager.old.drum.now ≡ Some tracks
+        → Agrees (Some tracks) pager.old.places.now.held → (go : ℕ → Row)
+        → RefinesFetch (reads (code_in tracks object.now) address go) go address result }
     ensures within { IfOk result (λ word. address < object.now.words) }
     ensures odd { result ≡ Err (Stopped Odd) → object.now.words ≤ address }
-    ensures failed { result ≡ Err DrumFailed → HasRisen (D.faults drum.old) (D.faults drum.new) }
+    ensures failed { result ≡ Err DrumFailed → HasRisen (D.faults pager.old.drum.now) (D.faults pager.new.drum.now) }
 {
     if address >= u64::from(object.words) {
         return Err(ODD);
     }
-    match read_word(object, drum, places, recent, trace, address as u32) {
+    match read_word(object, pager, address as u32) {
         Ok(word) => Ok(word),
         Err(_) => Err(Miss::Drum),
     }
@@ -92,25 +89,23 @@ pub(crate) fn fetch<D: Drum>(
 /// The order at an address; odd where the word there is none.
 pub(crate) fn fetch_order<D: Drum>(
     object: &Object,
-    drum: &mut D,
-    places: &mut Places,
-    recent: &mut Recent,
-    trace: &mut Trace,
+    pager: &mut Pager<D>,
     address: u64,
 ) -> Result<Order, Miss>
-    requires can { CanRead 1 object.now (seen D.room D.tracks D.journal D.faults drum.old places.old recent.old trace.old) }
-    ensures reads { Reads 1 object.now (seen D.room D.tracks D.journal D.faults drum.old places.old recent.old trace.old)
-        (seen D.room D.tracks D.journal D.faults drum.new places.new recent.new trace.new) }
-    ensures row { (tracks : List (List ℕ)) (size : ℕ) (regs : Regs) (go : Order → Row) → D.tracks drum.old ≡ Some tracks
-        → Agrees (Some tracks) places.old.held
-        → Searches object.now (seen D.room D.tracks D.journal D.faults drum.old places.old recent.old trace.old)
-        (seen D.room D.tracks D.journal D.faults drum.new places.new recent.new trace.new)
+    requires can { CanRead 1 object.now (pager_view D.room D.tracks D.journal D.faults pager.old) }
+    ensures same_references { SamePager pager.old pager.new }
+    ensures reads { Reads 1 object.now (pager_view D.room D.tracks D.journal D.faults pager.old)
+        (pager_view D.room D.tracks D.journal D.faults pager.new) }
+    ensures row { (tracks : List (List ℕ)) (size : ℕ) (regs : Regs) (go : Order → Row) → D.tracks pager.old.drum.now ≡ Some tracks
+        → Agrees (Some tracks) pager.old.places.now.held
+        → RefinesSearch object.now (pager_view D.room D.tracks D.journal D.faults pager.old)
+        (pager_view D.room D.tracks D.journal D.faults pager.new)
         (reads_order (code_in tracks object.now) size regs address go) regs go result }
     ensures order { IfOk result IsOrder }
     ensures within { IfOk result (λ order. address < object.now.words) }
-    ensures failed { result ≡ Err DrumFailed → HasRisen (D.faults drum.old) (D.faults drum.new) }
+    ensures failed { result ≡ Err DrumFailed → HasRisen (D.faults pager.old.drum.now) (D.faults pager.new.drum.now) }
 {
-    let word = match fetch(object, drum, places, recent, trace, address) {
+    let word = match fetch(object, pager, address) {
         Ok(word) => word,
         Err(miss) => return Err(miss),
     };
@@ -123,28 +118,26 @@ pub(crate) fn fetch_order<D: Drum>(
 /// The order at an address, which has to be this one.
 pub(crate) fn fetch_only<D: Drum>(
     object: &Object,
-    drum: &mut D,
-    places: &mut Places,
-    recent: &mut Recent,
-    trace: &mut Trace,
+    pager: &mut Pager<D>,
     address: u64,
     operation: Operation,
 ) -> Result<Order, Miss>
-    requires can { CanRead 1 object.now (seen D.room D.tracks D.journal D.faults drum.old places.old recent.old trace.old) }
-    ensures reads { Reads 1 object.now (seen D.room D.tracks D.journal D.faults drum.old places.old recent.old trace.old)
-        (seen D.room D.tracks D.journal D.faults drum.new places.new recent.new trace.new) }
-    ensures row { (tracks : List (List ℕ)) (size : ℕ) (regs : Regs) (go : Order → Row) → D.tracks drum.old ≡ Some tracks
-        → Agrees (Some tracks) places.old.held
-        → Searches object.now (seen D.room D.tracks D.journal D.faults drum.old places.old recent.old trace.old)
-        (seen D.room D.tracks D.journal D.faults drum.new places.new recent.new trace.new)
+    requires can { CanRead 1 object.now (pager_view D.room D.tracks D.journal D.faults pager.old) }
+    ensures same_references { SamePager pager.old pager.new }
+    ensures reads { Reads 1 object.now (pager_view D.room D.tracks D.journal D.faults pager.old)
+        (pager_view D.room D.tracks D.journal D.faults pager.new) }
+    ensures row { (tracks : List (List ℕ)) (size : ℕ) (regs : Regs) (go : Order → Row) → D.tracks pager.old.drum.now ≡ Some tracks
+        → Agrees (Some tracks) pager.old.places.now.held
+        → RefinesSearch object.now (pager_view D.room D.tracks D.journal D.faults pager.old)
+        (pager_view D.room D.tracks D.journal D.faults pager.new)
         (reads_order (code_in tracks object.now) size regs address (λ order. needs (is_a operation order) (go order))) regs go
         result }
     ensures order { IfOk result IsOrder }
     ensures only { IfOk result (λ order. is_a operation order ≡ true) }
     ensures within { IfOk result (λ order. address < object.now.words) }
-    ensures failed { result ≡ Err DrumFailed → HasRisen (D.faults drum.old) (D.faults drum.new) }
+    ensures failed { result ≡ Err DrumFailed → HasRisen (D.faults pager.old.drum.now) (D.faults pager.new.drum.now) }
 {
-    let order = match fetch_order(object, drum, places, recent, trace, address) {
+    let order = match fetch_order(object, pager, address) {
         Ok(order) => order,
         Err(miss) => return Err(miss),
     };

@@ -4,7 +4,7 @@ ghost use Rattle.gier_places.specs.Contents.{Agrees};
 ghost use Rattle.gier_order.specs.Flat.Rows.{row as row_of_order};
 ghost use Rattle.gier_exec.specs.Rows.{regs_of, word_in, code_in};
 ghost use Rattle.gier_exec.specs.References.{Refers};
-ghost use Rattle.gier_exec.specs.Turning.{IsRest, Follows, turned};
+ghost use Rattle.gier_exec.specs.Turning.{IsRest, RefinesTurn, turn_of_stop};
 ghost use Rattle.gier_io.specs.Device.{Puts};
 ghost use Rattle.gier_library.specs.Data.{Takes};
 ghost use Rattle.gier_word.specs.Cause.{HasRisen};
@@ -12,7 +12,7 @@ ghost use Rattle.gier_order.specs.Counts.{references_taken};
 ghost use Rattle.gier_library.specs.DataView.{source_of, has_ended, stand_of};
 ghost use Rattle.gier_best.specs.TraceModel.{AreTracks, KeepsSettings};
 ghost use Rattle.gier_exec.specs.Registers.{measure};
-ghost use Rattle.gier_exec.specs.Reading.{tracks_for, ReadsMore, seen};
+ghost use Rattle.gier_exec.specs.Reading.{tracks_for, ReadsMore, view_of};
 ghost use Rattle.gier_exec.specs.declared.turn.Turn.TheVariants.{On, Read, Write, Drum as DrumFailed, Spoilt};
 ghost use Rattle.gier_exec.specs.declared.stop.Stop.TheVariants.{Odd as StopOdd};
 ghost use Rattle.gier_word.specs.declared.refusal.Odd.{Odd};
@@ -20,6 +20,7 @@ ghost use Rattle.gier_exec.specs.declared.stop.Miss.TheVariants.{Drum as MissedD
 ghost use Rattle.gier_exec.specs.declared.stop.Quit.TheVariants.{Miss as Missed, Read as QuitRead, Write as QuitWrite};
 
 use crate::execute::execute;
+use crate::pager::Pager;
 use crate::reading::read_word;
 use crate::stop::{Miss, Quit, Stop};
 use crate::{Machine, Turn};
@@ -36,7 +37,8 @@ use gier_word::Odd;
 ///
 /// The words of the object are read through `places` alone, and each is noted in `recent`, by its track on the drum, and in
 /// `trace`, by its track within the object. `Read`, `Write` and `Drum` come only where the device's count of faults rose.
-/// A Turn other than On leaves `place` at the order, and Spoilt leaves the machine, the frames, the data and the printer as they were. The object has at most 2^24 words, `place` is one of their addresses, and
+/// A Turn other than On leaves `place` at the order, and Spoilt leaves the machine, the frames, the data and the printer as they
+/// were. The object has at most 2^24 words, `place` is one of their addresses, and
 /// the tracks of the object lie in the drum's room. Fewer than 2^119 references and transfers were counted.
 #[inline(always)]
 pub fn step_order<D: Drum, S: Source, K: Sink>(
@@ -62,12 +64,14 @@ pub fn step_order<D: Drum, S: Source, K: Sink>(
     ensures order { (odd : Odd) → result ≡ Spoilt odd → odd.place ≡ m.old.place }
     ensures row { (tracks : List (List ℕ)) → D.tracks drum.old ≡ Some tracks → Agrees (Some tracks) places.old.held
         → (read put references_taken : List ℕ) × Refers object.now read
-        (seen D.room D.tracks D.journal D.faults drum.old places.old recent.old trace.old)
-        (seen D.room D.tracks D.journal D.faults drum.new places.new recent.new trace.new)
-        × Puts (K.holds out.old) put (K.holds out.new) × Takes (stand_of S.left input.old) references_taken (stand_of S.left input.new)
+        (view_of D.room D.tracks D.journal D.faults drum.old places.old recent.old trace.old)
+        (view_of D.room D.tracks D.journal D.faults drum.new places.new recent.new trace.new)
+        × Puts (K.holds out.old) put (K.holds out.new)
+        × Takes (stand_of S.left input.old) references_taken (stand_of S.left input.new)
         × ((rest : List ℕ) → IsRest (has_ended input.new) rest
-        → Follows (row_of_order (code_in tracks object.now) (length frames.old.words)
-        (regs_of m.old frames.old (references_taken ++ rest))) (regs_of m.old frames.old (references_taken ++ rest)) (regs_of m.new frames.new rest)
+        → RefinesTurn (row_of_order (code_in tracks object.now) (length frames.old.words)
+        (regs_of m.old frames.old (references_taken ++ rest))) (regs_of m.old frames.old (references_taken
+        ++ rest)) (regs_of m.new frames.new rest)
         read put references_taken m.old.place (word_in tracks object.now m.old.place) result) }
     ensures measure { result ≡ On → measure object.now.words m.new < measure object.now.words m.old }
     ensures steps { m.new.steps ≤ m.old.steps }
@@ -89,16 +93,20 @@ pub fn step_order<D: Drum, S: Source, K: Sink>(
     ensures sink_failed { result ≡ Write → HasRisen (K.faults out.old) (K.faults out.new) }
 {
     let place = m.place();
-    let word = match read_word(object, drum, places, recent, trace, place) {
+    let mut pager = Pager {
+        drum,
+        places,
+        recent,
+        trace,
+    };
+    let word = match read_word(object, &mut pager, place) {
         Ok(word) => word,
         Err(_) => return Turn::Drum,
     };
     let Some(order) = Order::decode(word) else {
         return spoilt(place, word);
     };
-    match execute(
-        m, frames, object, drum, places, recent, trace, input, out, order,
-    ) {
+    match execute(m, frames, object, &mut pager, input, out, order) {
         Ok(next) => {
             m.set_place(next);
             Turn::On
@@ -120,7 +128,7 @@ fn spoilt(place: u32, word: u64) -> Turn
 // What comes of an order at a place that doesn't let the run go on.
 #[inline(always)]
 fn turn_of(quit: Quit, place: u32, word: u64) -> Turn
-    ensures value { result ≡ turned quit place word }
+    ensures value { result ≡ turn_of_stop quit place word }
     ensures off { result ≢ On }
     ensures drum { result ≡ DrumFailed → quit ≡ Missed MissedDrum }
     ensures read { result ≡ Read → quit ≡ QuitRead }

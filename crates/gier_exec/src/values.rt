@@ -1,15 +1,16 @@
 // The orders that go on with the next one and read nothing of the object: values, places, arrays, blocks.
-ghost use Rattle.std.specs.Prelude.{◌≡◌, ◌+◌, ◌<◌, ◌≤◌, ◌^◌, ◌==◌, ◌||◌, ℕ, true, List, IfOk, Err, OnOk, IsTrue, length, if◌then◌else◌};
+ghost use Rattle.std.specs.Prelude.{◌≡◌, ◌+◌, ◌<◌, ◌≤◌, ◌^◌, ◌==◌, ◌||◌, ℕ, true, List, IfOk, Err, OnOk, IsTrue, length};
+ghost use Rattle.std.specs.Prelude.{if◌then◌else◌};
 ghost use Rattle.gier_order.specs.declared.operation.Operation.TheVariants.{Index, Keep, Put, Lab, Array, Block, Start, Leave};
 ghost use Rattle.gier_order.specs.Flat.Row.{Row};
 ghost use Rattle.gier_order.specs.Flat.Rows.{effect, cell_word, in_level};
 ghost use Rattle.gier_exec.specs.Registers.{Registers};
 ghost use Rattle.gier_exec.specs.Rows.{regs_of};
 ghost use Rattle.gier_exec.specs.Numbers.{is_combined, is_value, is_plain, is_start};
-ghost use Rattle.gier_exec.specs.Following.{Gets, ComesOn, ComesWith};
+ghost use Rattle.gier_exec.specs.Following.{RefinesValue, RefinesNext, RefinesResult};
 ghost use Rattle.gier_order.specs.Codes.{IsOrder};
 ghost use Rattle.gier_frames.specs.State.{IsKept};
-ghost use Rattle.gier_exec.specs.Registers.{Keeps, weight};
+ghost use Rattle.gier_exec.specs.Registers.{PreservesPlace, weight};
 ghost use Rattle.gier_exec.specs.declared.stop.Stop.TheVariants.{Odd};
 
 use crate::Machine;
@@ -33,10 +34,10 @@ pub(crate) fn plain(
     requires order { IsOrder order }
     requires kept { IsKept frames.old }
     ensures row { (code input : List ℕ) → IsTrue (frames.old.entered || is_start operation) → is_plain operation ≡ true
-        → m.old.place + 1 < length code → ComesOn
+        → m.old.place + 1 < length code → RefinesNext
         (effect code (length frames.old.words) (regs_of m.old frames.old input) operation order.level order.address)
         (regs_of m.new frames.new input) result }
-    ensures keeps { Keeps m.old m.new }
+    ensures keeps { PreservesPlace m.old m.new }
     ensures lighter { OnOk result (weight m.new ≤ weight m.old) }
     ensures size { length frames.new.words ≡ length frames.old.words }
     ensures odd { result ≡ Err Odd → (m.new ≡ m.old) × (frames.new ≡ frames.old) }
@@ -66,7 +67,7 @@ fn value(m: &Machine, frames: &Frames, operation: Operation, order: Order) -> Re
     requires order { IsOrder order }
     requires kept { IsKept frames.now }
     ensures row { (code input : List ℕ) → frames.now.entered ≡ true → m.now.place + 1 < length code → is_value operation ≡ true
-        → ComesWith (effect code (length frames.now.words) (regs_of m.now frames.now input) operation order.level order.address)
+        → RefinesResult (effect code (length frames.now.words) (regs_of m.now frames.now input) operation order.level order.address)
         (regs_of m.now frames.now input) result }
     ensures small { IfOk result (λ word. word < 2 ^ 40) }
 {
@@ -90,7 +91,7 @@ fn value(m: &Machine, frames: &Frames, operation: Operation, order: Order) -> Re
 #[inline(always)]
 fn combined(m: &Machine, frames: &Frames, operation: Operation, address: u32) -> Result<u64, Stop>
     ensures row { (code input : List ℕ) → frames.now.entered ≡ true → m.now.place + 1 < length code → (l : ℕ)
-        → is_combined operation ≡ true → ComesWith
+        → is_combined operation ≡ true → RefinesResult
         (effect code (length frames.now.words) (regs_of m.now frames.now input) operation l address)
         (regs_of m.now frames.now input) result }
     ensures small { IfOk result (λ word. word < 2 ^ 40) }
@@ -110,7 +111,7 @@ fn combined(m: &Machine, frames: &Frames, operation: Operation, address: u32) ->
 fn take(frames: &Frames, order: Order) -> Result<u64, Stop>
     requires { IsOrder order }
     ensures row { (code input : List ℕ) (m : Registers) (go : ℕ → Row) → frames.now.entered ≡ true
-        → Gets (cell_word code (length frames.now.words) (regs_of m frames.now input) order.level order.address
+        → RefinesValue (cell_word code (length frames.now.words) (regs_of m frames.now input) order.level order.address
         (λ place word. go word)) go result }
     ensures small { IfOk result (λ word. word < 2 ^ 40) }
 {
@@ -123,7 +124,8 @@ fn take(frames: &Frames, order: Order) -> Result<u64, Stop>
 // BASE: C, or the base of the visible activation of a level.
 fn base(frames: &Frames, level: u8) -> Result<u64, Stop>
     ensures row { (code input : List ℕ) (m : Registers) (go : ℕ → Row) → frames.now.entered ≡ true
-        → Gets (if level == 0 then go frames.now.base else in_level code (length frames.now.words) (regs_of m frames.now input)
+        → RefinesValue (if level == 0 then go frames.now.base
+        else in_level code (length frames.now.words) (regs_of m frames.now input)
         level (λ b. go b)) go result }
     ensures small { IfOk result (λ word. word < 2 ^ 40) }
 {
@@ -137,7 +139,7 @@ fn base(frames: &Frames, level: u8) -> Result<u64, Stop>
 fn element(frames: &Frames, order: Order) -> Result<u64, Stop>
     requires kept { IsKept frames.now }
     ensures row { (code input : List ℕ) (m : Registers) → frames.now.entered ≡ true → m.place + 1 < length code
-        → ComesWith (effect code (length frames.now.words) (regs_of m frames.now input) Index order.level order.address)
+        → RefinesResult (effect code (length frames.now.words) (regs_of m frames.now input) Index order.level order.address)
         (regs_of m frames.now input) result }
     ensures small { IfOk result (λ word. word < 2 ^ 40) }
 {
@@ -151,7 +153,7 @@ fn element(frames: &Frames, order: Order) -> Result<u64, Stop>
 #[inline(always)]
 fn keep(m: &mut Machine, frames: &mut Frames, address: u32) -> Result<(), Stop>
     ensures row { (code input : List ℕ) → (l : ℕ) → frames.old.entered ≡ true → m.old.place + 1 < length code
-        → ComesOn (effect code (length frames.old.words) (regs_of m.old frames.old input) Keep l address)
+        → RefinesNext (effect code (length frames.old.words) (regs_of m.old frames.old input) Keep l address)
         (regs_of m.new frames.new input) result }
     ensures same { m.new ≡ m.old }
     ensures size { length frames.new.words ≡ length frames.old.words }
@@ -167,7 +169,7 @@ fn keep(m: &mut Machine, frames: &mut Frames, address: u32) -> Result<(), Stop>
 #[inline(always)]
 fn put(m: &mut Machine, frames: &mut Frames, address: u32) -> Result<(), Stop>
     ensures row { (code input : List ℕ) → (l : ℕ) → frames.old.entered ≡ true → m.old.place + 1 < length code
-        → ComesOn (effect code (length frames.old.words) (regs_of m.old frames.old input) Put l address)
+        → RefinesNext (effect code (length frames.old.words) (regs_of m.old frames.old input) Put l address)
         (regs_of m.new frames.new input) result }
     ensures same { m.new ≡ m.old }
     ensures size { length frames.new.words ≡ length frames.old.words }
@@ -183,9 +185,9 @@ fn put(m: &mut Machine, frames: &mut Frames, address: u32) -> Result<(), Stop>
 fn form_label(m: &mut Machine, frames: &mut Frames, order: Order) -> Result<(), Stop>
     requires { IsOrder order }
     ensures row { (code input : List ℕ) → frames.old.entered ≡ true → m.old.place + 1 < length code
-        → ComesOn (effect code (length frames.old.words) (regs_of m.old frames.old input) Lab order.level order.address)
+        → RefinesNext (effect code (length frames.old.words) (regs_of m.old frames.old input) Lab order.level order.address)
         (regs_of m.new frames.new input) result }
-    ensures keeps { Keeps m.old m.new }
+    ensures keeps { PreservesPlace m.old m.new }
     ensures lighter { weight m.new ≤ weight m.old }
     ensures size { length frames.new.words ≡ length frames.old.words }
     ensures odd { result ≡ Err Odd → (m.new ≡ m.old) × (frames.new ≡ frames.old) }
@@ -205,9 +207,9 @@ fn form_label(m: &mut Machine, frames: &mut Frames, order: Order) -> Result<(), 
 fn start(m: &mut Machine, frames: &mut Frames, order: Order) -> Result<(), Stop>
     requires kept { IsKept frames.old }
     ensures row { (code input : List ℕ) → m.old.place + 1 < length code
-        → ComesOn (effect code (length frames.old.words) (regs_of m.old frames.old input) Start order.level order.address)
+        → RefinesNext (effect code (length frames.old.words) (regs_of m.old frames.old input) Start order.level order.address)
         (regs_of m.new frames.new input) result }
-    ensures keeps { Keeps m.old m.new }
+    ensures keeps { PreservesPlace m.old m.new }
     ensures lighter { weight m.new ≤ weight m.old }
     ensures size { length frames.new.words ≡ length frames.old.words }
     ensures odd { result ≡ Err Odd → (m.new ≡ m.old) × (frames.new ≡ frames.old) }
@@ -226,7 +228,7 @@ fn start(m: &mut Machine, frames: &mut Frames, order: Order) -> Result<(), Stop>
 fn take_array(m: &mut Machine, frames: &mut Frames, order: Order) -> Result<(), Stop>
     requires kept { IsKept frames.old }
     ensures row { (code input : List ℕ) → frames.old.entered ≡ true → m.old.place + 1 < length code
-        → ComesOn (effect code (length frames.old.words) (regs_of m.old frames.old input) Array order.level order.address)
+        → RefinesNext (effect code (length frames.old.words) (regs_of m.old frames.old input) Array order.level order.address)
         (regs_of m.new frames.new input) result }
     ensures same { m.new ≡ m.old }
     ensures size { length frames.new.words ≡ length frames.old.words }
@@ -246,9 +248,9 @@ fn take_array(m: &mut Machine, frames: &mut Frames, order: Order) -> Result<(), 
 fn enter_block(m: &mut Machine, frames: &mut Frames, order: Order) -> Result<(), Stop>
     requires kept { IsKept frames.old }
     ensures row { (code input : List ℕ) → frames.old.entered ≡ true → m.old.place + 1 < length code
-        → ComesOn (effect code (length frames.old.words) (regs_of m.old frames.old input) Block order.level order.address)
+        → RefinesNext (effect code (length frames.old.words) (regs_of m.old frames.old input) Block order.level order.address)
         (regs_of m.new frames.new input) result }
-    ensures keeps { Keeps m.old m.new }
+    ensures keeps { PreservesPlace m.old m.new }
     ensures lighter { weight m.new ≤ weight m.old }
     ensures size { length frames.new.words ≡ length frames.old.words }
     ensures odd { result ≡ Err Odd → (m.new ≡ m.old) × (frames.new ≡ frames.old) }
@@ -277,9 +279,9 @@ fn enter_block(m: &mut Machine, frames: &mut Frames, order: Order) -> Result<(),
 fn leave_block(m: &mut Machine, frames: &mut Frames) -> Result<(), Stop>
     requires kept { IsKept frames.old }
     ensures row { (code input : List ℕ) → (l a : ℕ) → frames.old.entered ≡ true → m.old.place + 1 < length code
-        → ComesOn (effect code (length frames.old.words) (regs_of m.old frames.old input) Leave l a)
+        → RefinesNext (effect code (length frames.old.words) (regs_of m.old frames.old input) Leave l a)
         (regs_of m.new frames.new input) result }
-    ensures keeps { Keeps m.old m.new }
+    ensures keeps { PreservesPlace m.old m.new }
     ensures lighter { weight m.new ≤ weight m.old }
     ensures size { length frames.new.words ≡ length frames.old.words }
     ensures odd { result ≡ Err Odd → (m.new ≡ m.old) × (frames.new ≡ frames.old) }

@@ -4,7 +4,7 @@
 
 use gier_drum::FileDrum;
 use gier_job::Status;
-use gier_shell::{About, end, read_arguments, serve, tell};
+use gier_shell::{About, LONGEST_PATH, end, read_arguments, read_command_line, serve, tell};
 use std::env::FillError;
 use std::fs::{File, OpenOptions};
 use std::process::ExitCode;
@@ -15,9 +15,6 @@ const PATH: usize = 1;
 
 const FIRST_WORD: usize = 2;
 
-// No path has more bytes.
-const LONGEST_PATH: usize = 4096;
-
 const ABOUT: About = About {
     name: "gier_file",
     help: HELP,
@@ -25,14 +22,14 @@ const ABOUT: About = About {
 };
 
 const HELP: &str = "\
-usage: gier_file FILE run [WORD..] < TAPE
-       gier_file FILE check [sample=K] < TAPE
+usage: gier_file DRUM run [WORD..] [FILE]
+       gier_file DRUM check [sample=K] [FILE]
        gier_file --help
        gier_file --version
 
 Does what `gier` does with the same words, and keeps the texts and the object
-of the program in FILE, which is made where there is none. The words and the
-exit status are those of `gier --help`.
+of the program in the file DRUM, which is made where there is none. The words,
+the tape in FILE and the exit status are those of `gier --help`.
 ";
 
 fn main(rt: HostRuntime) -> ExitCode {
@@ -49,8 +46,8 @@ fn main(rt: HostRuntime) -> ExitCode {
 // Hands the words behind the path to the top call. Without a file each wrong word is still told as such.
 fn work(rt: &HostRuntime) -> Status {
     let mut drum = FileDrum::of(open_file(rt));
-    match read_arguments(rt, rt.alloc(), FIRST_WORD) {
-        Ok(words) => serve(rt, &ABOUT, words.as_slice(), &mut drum),
+    match read_command_line(rt, rt.alloc(), FIRST_WORD) {
+        Ok(line) => serve(rt, &ABOUT, &line, &mut drum),
         Err(_) => Status::Memory,
     }
 }

@@ -34,7 +34,8 @@ after_write s place word = record s { words = slice_set s.words place word }
 -- the words with a descriptor, its elements at the top, and the word after the activation corrected
 abbrev pub array_words : List ℕ → ℕ → ℕ → ℕ → ℕ → ℕ → ℕ → List ℕ
 array_words words d place from base top count =
-    slice_set (with_values (with_two (with_zeros words top count) place top d) (place + 2) (words_from words from (2 * d)) (2 * d)) (base + 2) (top + count)
+    slice_set (with_values (with_two (with_zeros words top count) place top d) (place + 2) (words_from words from (2 * d))
+    (2 * d)) (base + 2) (top + count)
 
 -- ARRAY
 abbrev pub with_array : State → ℕ → ℕ → ℕ → State
@@ -47,12 +48,16 @@ with_array s d place from = record s {
 -- the words with an activation that returns: its header, the order to return to, what is wanted, and the actuals
 abbrev pub call_words : List ℕ → ℕ → ℕ → ℕ → ℕ → ℕ → ℕ → ℕ → ℕ → List ℕ
 call_words words at room old head back wanted from count =
-    with_values (with_two (with_header (with_zeros words at room) at old head (at + room)) (at + 3) back wanted) (at + 5 + count % 2) (words_from words from (count / 2 * 2)) (count / 2 * 2)
+    with_values (with_two (with_header (with_zeros words at room) at old head (at + room)) (at + 3) back wanted)
+    (at + 5 + count % 2) (words_from words from (count / 2 * 2)) (count / 2 * 2)
 
 -- CALL, and the entry of an evaluation
 abbrev pub after_call : State → ℕ → ℕ → ℕ → ℕ → ℕ → ℕ → ℕ → State
 after_call s level room outer back wanted from count =
-    record (entered_one s level room outer 1) { words = call_words s.words s.top room s.base (level * 16777216 + outer) back wanted (s.base + from) count }
+    record (entered_one s level room outer 1) {
+      words = call_words s.words s.top room s.base
+          (level * 16777216 + outer) back wanted (s.base + from) count;
+    }
 
 -- RETURN and BACK leave as LEAVE does
 abbrev pub went_back : State → State
@@ -60,4 +65,8 @@ went_back s = left s
 
 -- GO
 abbrev pub after_go : State → ℕ → State
-after_go s base = record s { base = base; top = slice_index s.words (base + 2); greatest = max s.greatest (slice_index s.words (base + 2)) }
+after_go s base = record s {
+  base = base;
+  top = slice_index s.words (base + 2);
+  greatest = max s.greatest (slice_index s.words (base + 2));
+}

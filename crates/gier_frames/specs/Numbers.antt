@@ -1,5 +1,6 @@
 -- The bounds of arrays, which are whole numbers from -2^39 to 2^39 - 1, kept as words in two's complement.
-use Rattle.std.specs.Prelude.{◌+◌, ◌-◌, ◌*◌, ◌&&◌, ◌==◌, ℕ, zero, suc, Bool, true, nat_lt, nat_le, if◌then◌else◌, List, length, slice_index, Result, Ok, Err}
+use Rattle.std.specs.Prelude.{◌+◌, ◌-◌, ◌*◌, ◌&&◌, ◌==◌, ℕ, zero, suc, Bool, true, nat_lt, nat_le, if◌then◌else◌, List, length}
+use Rattle.std.specs.Prelude.{slice_index, Result, Ok, Err}
 use Rattle.gier_word.specs.declared.alarm.Alarm.TheVariants.{Subscript}
 use Rattle.gier_frames.specs.declared.halt.Halt.{Halt}
 use Rattle.gier_frames.specs.declared.halt.Halt.TheVariants.{Alarm, Odd}
@@ -36,7 +37,8 @@ subscript words from i = excess_number (slice_index words (from + i))
 -- whether each of d subscripts lies within its bounds
 abbrev pub are_within : List ℕ → ℕ → ℕ → ℕ → Bool
 are_within words at from zero = true
-are_within words at from (suc d) = are_within words at from d && (nat_le (lower words at d) (subscript words from d) && nat_le (subscript words from d) (upper words at d))
+are_within words at from (suc d) = are_within words at from d && (nat_le (lower words at d) (subscript words from d)
+    && nat_le (subscript words from d) (upper words at d))
 
 -- the element's number from the first on, the last subscript varying fastest
 abbrev pub offset : List ℕ → ℕ → ℕ → ℕ → ℕ
@@ -51,15 +53,18 @@ element_place place size = if nat_lt place size then Ok place else Err Odd
 abbrev pub element_in : List ℕ → ℕ → ℕ → ℕ → Result ℕ Halt
 element_in words d base from =
     if nat_le (base + 2 + 2 * d) (length words)
-    then (if are_within words (base + 2) from d then element_place (slice_index words base + offset words (base + 2) from d) (length words) else Err (Alarm Subscript))
+    then (if are_within words (base + 2) from d then element_place (slice_index words base + offset words (base + 2) from d)
+    (length words) else Err (Alarm Subscript))
     else Err Odd
 
 -- the same, where the number of subscripts is first compared with the descriptor's
 abbrev pub element_by : List ℕ → ℕ → ℕ → ℕ → Result ℕ Halt
 element_by words d base from =
-    if nat_lt (base + 1) (length words) then (if slice_index words (base + 1) == d then element_in words d base from else Err (Alarm Subscript)) else Err Odd
+    if nat_lt (base + 1) (length words) then (if slice_index words (base + 1) == d then element_in words d base from
+    else Err (Alarm Subscript)) else Err Odd
 
 -- INDEX: the descriptor's place stands in a word, the subscripts after it
 abbrev pub element_at : List ℕ → ℕ → ℕ → Result ℕ Halt
 element_at words d place =
-    if nat_le 1 d && (nat_le d 30 && nat_lt (place + d) (length words)) then element_by words d (slice_index words place) (place + 1) else Err Odd
+    if nat_le 1 d && (nat_le d 30 && nat_lt (place + d) (length words))
+    then element_by words d (slice_index words place) (place + 1) else Err Odd

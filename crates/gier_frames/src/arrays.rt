@@ -1,5 +1,6 @@
 // Arrays in the frames: their descriptors and elements.
-ghost use Rattle.std.specs.Prelude.{◌≡◌, ◌+◌, ◌*◌, ◌<◌, ◌≤◌, ◌^◌, ℕ, length, slice_index, slice_set, vec_capacity, IfOk, OnOk, OnErr};
+ghost use Rattle.std.specs.Prelude.{◌≡◌, ◌+◌, ◌*◌, ◌<◌, ◌≤◌, ◌^◌, ℕ, length, slice_index, slice_set, vec_capacity, IfOk, OnOk};
+ghost use Rattle.std.specs.Prelude.{OnErr};
 ghost use Rattle.gier_frames.specs.Answers.{Answers};
 ghost use Rattle.gier_frames.specs.Refusals.{is_array, array_refusal, elements_refusal};
 ghost use Rattle.gier_frames.specs.Effects.{with_array, array_words};
@@ -104,7 +105,8 @@ fn make_array(words: &mut Region, bounds: &Vec<u64>, d: u64, place: u64, top: u6
     requires top { top + count ≤ length words.old.words }
     requires small { (k : ℕ) → slice_index bounds.now.items k < 2 ^ 40 }
     requires limit { length words.old.words < 2 ^ 24 }
-    ensures words { words.new.words ≡ with_values (with_two (with_zeros words.old.words top count) place top d) (place + 2) bounds.now.items
+    ensures words { words.new.words ≡ with_values (with_two (with_zeros words.old.words top count) place top d)
+        (place + 2) bounds.now.items
         (length bounds.now.items) }
     ensures size { length words.new.words ≡ length words.old.words }
 {

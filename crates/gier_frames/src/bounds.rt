@@ -1,6 +1,7 @@
 // The bounds and subscripts of arrays as they stand in the words of a region.
 ghost use Rattle.std.specs.Prelude.{◌≡◌, ◌+◌, ◌*◌, ◌<◌, ◌≤◌, ◌^◌, ◌&&◌, nat_le, MatchOption, length, slice_index};
-ghost use Rattle.gier_frames.specs.Numbers.{excess_number, lower, upper, extent, are_ordered, elements, subscript, are_within, offset, element_in, element_by, element_at};
+ghost use Rattle.gier_frames.specs.Numbers.{excess_number, lower, upper, extent, are_ordered, elements, subscript, are_within};
+ghost use Rattle.gier_frames.specs.Numbers.{offset, element_in, element_by, element_at};
 
 use crate::Halt;
 use crate::walk::BASES;

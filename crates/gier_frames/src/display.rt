@@ -1,6 +1,7 @@
 // The visible activations by level, so that one is found without a walk, and the words that tell which these are.
 // Nothing here changes a word of the stack, nor asks when the display must be built anew.
-ghost use Rattle.std.specs.Prelude.{◌≡◌, ◌==◌, ◌+◌, ◌<◌, ◌≤◌, ◌^◌, ℕ, [], length, replicate, slice_index, slice_set, vec_capacity, IfOk};
+ghost use Rattle.std.specs.Prelude.{◌≡◌, ◌==◌, ◌+◌, ◌<◌, ◌≤◌, ◌^◌, ℕ, [], length, replicate, slice_index, slice_set};
+ghost use Rattle.std.specs.Prelude.{vec_capacity, IfOk};
 ghost use Rattle.gier_frames.specs.Display.{base_or_halt, with_levels_noted, Shows, KeepsLit};
 
 use crate::Halt;
@@ -35,7 +36,8 @@ impl Model for Display {
 
     ghost view = { λ d. record { by_level = d.by_level; chain = d.chain.items; lit = d.lit.items; size = d.size } };
 
-    ghost invariant = { λ d. ((level : ℕ) → d.levels ≤ level → slice_index d.by_level level ≡ 0) × (d.levels ≤ 256) × (length d.lit.items ≤ d.size) × (d.size ≤ vec_capacity d.lit) × (d.size ≤ vec_capacity d.chain) × (d.size < 2 ^ 24) };
+    ghost invariant = { λ d. ((level : ℕ) → d.levels ≤ level → slice_index d.by_level level ≡ 0) × (d.levels ≤ 256)
+        × (length d.lit.items ≤ d.size) × (d.size ≤ vec_capacity d.lit) × (d.size ≤ vec_capacity d.chain) × (d.size < 2 ^ 24) };
 }
 
 impl Display {

@@ -1,8 +1,10 @@
 // The frames: opening, the orders that enter and leave blocks, and reads and writes of single words.
-ghost use Rattle.std.specs.Prelude.{◌≡◌, ◌+◌, ◌*◌, ◌<◌, ◌≤◌, ◌^◌, ℕ, true, length, replicate, slice_index, slice_set, IfOk, OnOk, OnErr};
+ghost use Rattle.std.specs.Prelude.{◌≡◌, ◌+◌, ◌*◌, ◌<◌, ◌≤◌, ◌^◌, ℕ, true, length, replicate, slice_index, slice_set, IfOk, OnOk};
+ghost use Rattle.std.specs.Prelude.{OnErr};
 ghost use Rattle.gier_frames.specs.State.{IsKept, fresh, all_zero};
 ghost use Rattle.gier_frames.specs.Answers.{Answers};
-ghost use Rattle.gier_frames.specs.Refusals.{start_refusal, block_refusal, leave_refusal, place_refusal, base_refusal, room_refusal, is_place, odd_unless};
+ghost use Rattle.gier_frames.specs.Refusals.{start_refusal, block_refusal, leave_refusal, place_refusal, base_refusal};
+ghost use Rattle.gier_frames.specs.Refusals.{room_refusal, is_place, odd_unless};
 ghost use Rattle.gier_frames.specs.Effects.{entered_one, after_start, entered_block, left, after_write};
 ghost use Rattle.gier_frames.specs.Walk.{cell_of};
 
@@ -46,9 +48,19 @@ impl Model for Frames {
 
     ghost Value = { State };
 
-    ghost view = { λ f. record { words = f.words.words; marks = f.marks.words; base = f.base; top = f.top; greatest = f.greatest; entered = f.entered } };
+    ghost view = { λ f. record {
+      words = f.words.words;
+      marks = f.marks.words;
+      base = f.base;
+      top = f.top;
+      greatest = f.greatest;
+      entered = f.entered;
+    } };
 
-    ghost invariant = { λ f. (length f.words.words < 2 ^ 24) × (length f.marks.words ≡ length f.words.words) × (f.top ≤ length f.words.words) × (f.greatest ≤ length f.words.words) × (f.base ≤ length f.words.words) × (f.entered ≡ true → f.base < length f.words.words) × (510 ≤ vec_capacity f.saved) × (f.display.size ≡ length f.words.words) × (f.entered ≡ true → Shows f.display f.words.words f.base) };
+    ghost invariant = { λ f. (length f.words.words < 2 ^ 24) × (length f.marks.words ≡ length f.words.words)
+        × (f.top ≤ length f.words.words) × (f.greatest ≤ length f.words.words) × (f.base ≤ length f.words.words)
+        × (f.entered ≡ true → f.base < length f.words.words) × (510 ≤ vec_capacity f.saved)
+        × (f.display.size ≡ length f.words.words) × (f.entered ≡ true → Shows f.display f.words.words f.base) };
 }
 
 impl Frames {
@@ -93,6 +105,15 @@ impl Frames {
         self.top = 0;
         self.enter(level, u64::from(room), 0, 0);
         Ok(())
+    }
+
+    /// Whether there is an activation.
+    #[inline]
+    pub fn is_entered(&self) -> bool
+        ensures value { result ≡ self.now.entered }
+        ensures kept { IsKept self.now }
+    {
+        self.entered
     }
 
     /// Enters a block of a level and with so many words, enclosed by the current activation.

@@ -22,10 +22,10 @@ use Rattle.gier_pass1.specs.TapeListing.{TellsTape}
 use Rattle.gier_pass2.specs.declared.pass.Pass2.{Pass2}
 use Rattle.gier_pass2.specs.Exact.{IsExact}
 use Rattle.gier_pass3.specs.Found.{IsBare, AreFound, faults_of}
-use Rattle.gier_areas.specs.Areas.{longest}
+use Rattle.gier_limits.specs.Areas.{longest}
 use Rattle.gier_front.specs.declared.stop.FrontStop.{FrontStop}
 use Rattle.gier_front.specs.declared.stop.FrontStop.TheVariants.{Errors, Read, Drum, Spoilt}
-use Rattle.gier_front.specs.Stages.{IsToldAs, IsNothing, IfDriven}
+use Rattle.gier_front.specs.Passes.{IsToldAs, IsNothing, IfDriven}
 use Rattle.gier_front.specs.Early.{too_long, structure_faults, or_else, faults_of_two, faults_of_one, early_by, early_faults, AreEarly, FindsEarly, FindsFirst, ArePlain}
 use Rattle.gier_front.proofs.Plain.{all_spelled, all_bare, assembled_bare, plain_symbols}
 
@@ -109,7 +109,7 @@ text_same : (tape : List ℕ) → text_of tape ≡ program_of tape
 text_same [] = refl
 text_same (byte ∷ tape) = same_by (byte == 35) byte (text_of tape) (program_of tape) (text_same tape)
 
--- the first stage
+-- pass 1
 
 early_short : (program : List ℕ) → length program ≤ longest → early_faults program ≡ or_else (map as_fault (symbols_of program).faults) (faults_of_one (symbols_of program).symbols)
 early_short program short = let no : nat_lt longest (length program) ≡ false = grind (arith, nat_tests, short) in rw no refl

@@ -3,7 +3,7 @@ use Rattle.std.proofs.Common.{◌≡◌, ◌≤◌, ◌<◌, ◌+◌, ℕ, zero,
 use Rattle.gier_io.specs.Device.{Puts, PutsPart}
 use Rattle.gier_text.specs.declared.fault.Fault.{Fault}
 use Rattle.gier_front.specs.Printed.{errors_text, fault_line}
-use Rattle.gier_front.proofs.Prints.{puts_more, part_more}
+use Rattle.gier_io.proofs.Prints.{puts_more, part_more}
 
 -- the lines so far were printed
 pub record HasPrinted (faults : List Fault) (at : ℕ) (old now : Option (List ℕ)) (count_old count_now : ℕ) : Type 0 where

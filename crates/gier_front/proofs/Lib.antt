@@ -1,6 +1,5 @@
 pub mod Told
 pub mod Blank
-pub mod Prints
 pub mod Errors
 pub mod Plain
 pub mod Early

@@ -1,6 +1,7 @@
 -- The symbols of a program text have values only where their tags have a use for one: letters, digits and bytes of strings have,
 -- and once they are assembled, identifiers, numbers and bytes of strings.
 use Rattle.std.proofs.Common.{◌≡◌, ◌==◌, ◌&&◌, ◌||◌, ◌<◌, ◌≤◌, ◌+◌, ◌-◌, ℕ, zero, suc, Bool, true, false, nat_lt, nat_le, cond, if◌then◌else◌, codes, map, List, [], ◌∷◌, ◌++◌, length, drop, Option, None, Some, IsTrue, refl, ap, sym, subst, ◌∙◌, arith, inl, inr}
+use Rattle.gier_word.proofs.Options.{some_same}
 use Rattle.std.specs.List.{All, find, list_all, take_while}
 use Rattle.std.specs.Option.{option_map}
 use Rattle.std.specs.Str.{bytes_eq}
@@ -53,9 +54,6 @@ plain_byte byte line = record { letter = λ is. cc; digit = λ is. cc; other = r
 
 is_high : Tag → Bool
 is_high kind = nat_lt 2 (number_of kind)
-
-some_same : {A : Type 0} (x y : A) → Some x ≡ Some y → x ≡ y
-some_same x y h = cc
 
 high_step : (test here others : Bool) (x y : Tag) (found : Option Tag) → is_high x ≡ here → (here && others) ≡ true → cond test (Some x) found ≡ Some y → (others ≡ true → found ≡ Some y → is_high y ≡ true) → is_high y ≡ true
 high_step true true others x y found is all same go_on = subst (λ (t : Tag). is_high t ≡ true) (some_same x y same) is

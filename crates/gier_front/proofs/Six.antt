@@ -3,7 +3,7 @@ use Rattle.std.proofs.Common.{◌≡◌, ◌∙◌, ℕ, List, Option, sym, subs
 use Rattle.gier_symbol.specs.declared.symbol.Symbol.{Symbol}
 use Rattle.gier_text.specs.SymbolsOnTracks.{symbols_of, all_symbols, text_on}
 use Rattle.gier_text.specs.Own.{found_on}
-use Rattle.gier_front.specs.Stages.{IsToldAs}
+use Rattle.gier_front.specs.Passes.{IsToldAs}
 
 -- a text that was turned has nothing in its buffer
 pub told_on : (P : List Symbol → Type 0) (tracks : Option (List (List ℕ))) (first loaded : ℕ) (buffer : List ℕ) (count place symbols : ℕ)

@@ -1,4 +1,4 @@
--- What a stage writes over a list that is told.
+-- What a pass writes over a list that is told.
 use Rattle.std.proofs.Common.{◌≡◌, ◌++◌, ◌∙◌, ℕ, List, [], Option, None, Some, sym, ap, subst, refl}
 use Rattle.std.specs.Prelude.{Result, Ok, Err, OnOk}
 use Rattle.gier_symbol.specs.declared.symbol.Symbol.{Symbol}
@@ -6,10 +6,7 @@ use Rattle.gier_text.specs.declared.text.Way.{Way}
 use Rattle.gier_text.specs.View.{View, Appends, OrdersLeft, IsLeftIn, in_way}
 use Rattle.gier_front.specs.declared.stop.FrontStop.{FrontStop}
 use Rattle.gier_front.specs.declared.stop.FrontStop.TheVariants.{Errors, Read, Drum, Spoilt}
-use Rattle.gier_front.specs.Stages.{IsToldAs, IsNothing, IfDriven}
-
-some_same : {A : Type 0} (x y : A) → Some x ≡ Some y → x ≡ y
-some_same x y h = cc
+use Rattle.gier_front.specs.Passes.{IsToldAs, IsNothing, IfDriven}
 
 -- the list that is handed over is the one that was read
 pub handed : (P : List Symbol → Type 0) (held : Option (List Symbol)) (way : Way) (left : Option (List Symbol)) (read : List Symbol) → IsToldAs P held → OrdersLeft held way left → IsLeftIn left read → (list : List Symbol) × P list × (read ≡ in_way way list)

@@ -1,5 +1,6 @@
--- The faults that are found before scopes and types: those of the first stage that finds any.
-use Rattle.std.specs.Prelude.{◌≡◌, ◌<◌, ◌==◌, ◌||◌, ℕ, Bool, true, false, nat_lt, List, [], ◌∷◌, length, map, Option, None, Some, Result, Ok, Err, IsTrue}
+-- The faults that are found before scopes and types: those of the first pass that finds any.
+use Rattle.std.specs.Prelude.{◌≡◌, ◌<◌, ◌==◌, ◌||◌, ℕ, Bool, true, false, nat_lt, List, [], ◌∷◌, length, map, Option, None}
+use Rattle.std.specs.Prelude.{Some, Result, Ok, Err, IsTrue}
 use Rattle.gier_symbol.specs.declared.symbol.Symbol.{Symbol}
 use Rattle.gier_symbol.specs.declared.tag.Tag.TheVariants.{Letter, Digit, StringByte}
 use Rattle.gier_symbol.specs.Assembly.{is, is_letter_or_digit, assembly}
@@ -11,7 +12,7 @@ use Rattle.gier_text.specs.declared.fault.FaultKind.{FaultKind}
 use Rattle.gier_text.specs.declared.fault.FaultKind.TheVariants.{TooLong, Structure}
 use Rattle.gier_text.specs.Faults.{as_fault, without_position}
 use Rattle.gier_tree.specs.Structure.{structure_fault}
-use Rattle.gier_areas.specs.Areas.{longest}
+use Rattle.gier_limits.specs.Areas.{longest}
 use Rattle.gier_front.specs.declared.stop.FrontStop.{FrontStop}
 use Rattle.gier_front.specs.declared.stop.FrontStop.TheVariants.{Errors, Read, Drum, Spoilt}
 
@@ -23,7 +24,7 @@ abbrev pub structure_faults : Option ℕ → List (FaultAt FaultKind)
 structure_faults None = []
 structure_faults (Some at) = record { kind = Structure; line = at } ∷ []
 
--- the faults of a stage, or else those of the next ones
+-- the faults of a pass, or else those of the next ones
 abbrev pub or_else : {T : Type 0} → List T → List T → List T
 or_else [] later = later
 or_else (fault ∷ faults) later = fault ∷ faults
@@ -57,10 +58,11 @@ FindsEarly (Err Read) early found = Unit {0}
 FindsEarly (Err Drum) early found = Unit {0}
 FindsEarly (Err (Spoilt odd)) early found = Unit {0}
 
--- The first stage either found the early faults, or none: then text 1 has the symbols of the program text, and what is left to
+-- Pass 1 either found the early faults, or none: then text 1 has the symbols of the program text, and what is left to
 -- be found is found in it.
 abbrev pub FindsFirst : {T : Type 0} → Result T FrontStop → (program : List ℕ) → List Fault → (held : Option (List Symbol)) → Type 0
-FindsFirst (Ok x) program found held = (early_faults program ≡ faults_of_one (symbols_of program).symbols) × (held ≡ Some (symbols_of program).symbols)
+FindsFirst (Ok x) program found held =
+    (early_faults program ≡ faults_of_one (symbols_of program).symbols) × (held ≡ Some (symbols_of program).symbols)
 FindsFirst (Err Errors) program found held = AreEarly (early_faults program) found
 FindsFirst (Err Read) program found held = Unit {0}
 FindsFirst (Err Drum) program found held = Unit {0}

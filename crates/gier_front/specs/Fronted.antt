@@ -4,10 +4,10 @@ use Rattle.gier_text.specs.declared.fronted.Fronted.{Fronted}
 use Rattle.gier_pass1.specs.Program.{TakesAll, TakesPart}
 use Rattle.gier_front.specs.declared.stop.FrontStop.{FrontStop}
 use Rattle.gier_front.specs.declared.stop.FrontStop.TheVariants.{Errors, Read, Drum, Spoilt}
-use Rattle.gier_areas.specs.Areas.{longest, first_of}
+use Rattle.gier_limits.specs.Areas.{longest, first_of}
 use Rattle.gier_text.specs.SymbolsOnTracks.{text_on}
 use Rattle.gier_text.specs.Potential.{IsWithinPotential}
-use Rattle.gier_front.specs.Stages.{IsToldAs}
+use Rattle.gier_front.specs.Passes.{IsToldAs}
 
 -- text 6 lies in the first area, and is no longer than a text of a program of so many bytes may be
 pub record IsFronted (fronted : Fronted) : Type 0 where

@@ -1,4 +1,5 @@
--- Why each stage is meant for what the one before it writes.
+-- Why each pass is meant for what the one before it writes. The laws of `PassContract` cite these proofs, and a law may cite
+-- specs alone.
 use Rattle.std.specs.Prelude.{◌≡◌, ◌≤◌, ◌<◌, ◌+◌, ◌-◌, ◌*◌, ◌++◌, ℕ, List, [], ◌∷◌, length, reverse, All, IsTrue, slice_index_or}
 use Rattle.std.proofs.Common.{arith, sym, subst, ◌∙◌, refl, length-append}
 use Rattle.std.proofs.lemmas.List.{length-reverse, reverse-append, get_or-reverse}
@@ -9,13 +10,14 @@ use Rattle.gier_text.specs.Potential.{is_numbered, potential, potential_of, IsWi
 use Rattle.gier_pass2.specs.declared.pass.Pass2.{Pass2}
 use Rattle.gier_pass2.specs.Letters.{IsWritable}
 use Rattle.gier_pass2.specs.Invariant.{IsTextOne, Relates}
-use Rattle.gier_pass3.specs.Standing.{IsTextTwo as IsMeantForThree}
+use Rattle.gier_pass3.specs.Invariant.{IsTextTwo as IsMeantForThree}
 use Rattle.gier_pass5.specs.declared.pass.Pass5.{Pass5}
 use Rattle.gier_pass5.specs.Invariant.{Relates as RelatesFive}
-use Rattle.gier_front.specs.Stages.{IsTextTwo}
+use Rattle.gier_front.specs.Passes.{IsTextTwo}
 
 -- what assembling writes over text 1
-pub assembled : (pass : Pass2) (t : TablesModel) (list written : List Symbol) → IsTextOne pass.bytes list → Relates pass t list written → IsTextTwo pass.bytes written
+pub assembled : (pass : Pass2) (t : TablesModel) (list written : List Symbol) → IsTextOne pass.bytes list
+    → Relates pass t list written → IsTextTwo pass.bytes written
 assembled pass t list written h relates = record {
   letters = λ k d lt. (relates.letters k d lt).letter;
   numbered = λ k d lt. (relates.letters k d lt).numbered;
@@ -37,10 +39,13 @@ weight_both text (x ∷ xs) ys = Prim.omega (arith, weight_both text xs ys)
 
 weight_back : (text : ℕ) (list : List Symbol) → potential text (reverse list) ≡ potential text list
 weight_back text [] = refl
-weight_back text (s ∷ list) = let more : reverse (s ∷ list) ≡ reverse list ++ s ∷ [] = reverse-append (s ∷ []) list in rw more (Prim.omega (arith, weight_both text (reverse list) (s ∷ []), weight_back text list))
+weight_back text (s ∷ list) =
+    let more : reverse (s ∷ list) ≡ reverse list ++ s ∷ [] = reverse-append (s ∷ []) list in
+    rw more (Prim.omega (arith, weight_both text (reverse list) (s ∷ []), weight_back text list))
 
 -- a text that isn't too heavy isn't so backward
-pub light_back : (text bytes : ℕ) (list : List Symbol) → IsWithinPotential text bytes list → IsWithinPotential text bytes (reverse list)
+pub light_back : (text bytes : ℕ) (list : List Symbol) → IsWithinPotential text bytes list
+    → IsWithinPotential text bytes (reverse list)
 light_back text bytes list h = record {
   letters = all_back (λ s. IsTrue (stands_in text s.tag)) list h.letters;
   numbered = all_back (λ s. IsTrue (is_numbered text bytes s)) list h.numbered;
@@ -48,7 +53,8 @@ light_back text bytes list h = record {
 }
 
 -- what distributing writes over text 4
-pub scoped : (pass : Pass5) (list written : List Symbol) → IsWithinPotential 4 pass.bytes list → RelatesFive pass (reverse list) written → IsWithinPotential 5 pass.bytes written
+pub scoped : (pass : Pass5) (list written : List Symbol) → IsWithinPotential 4 pass.bytes list
+    → RelatesFive pass (reverse list) written → IsWithinPotential 5 pass.bytes written
 scoped pass list written h relates = record {
   letters = λ k d lt. (relates.letters k d lt).letter;
   numbered = relates.numbered (all_back (λ s. IsTrue (is_numbered 4 pass.bytes s)) list h.numbered);

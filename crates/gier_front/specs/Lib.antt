@@ -1,5 +1,5 @@
 pub mod Stops
-pub mod Stages
+pub mod Passes
 pub mod Handed
 pub mod Fronted
 pub mod Printed

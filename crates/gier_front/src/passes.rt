@@ -1,25 +1,28 @@
 // The way from the tape to text 6: six passes, one after the other, in which the order of the passes can be read.
-ghost use Rattle.std.specs.Prelude.{◌≡◌, ◌≤◌, ◌<◌, ◌+◌, ◌*◌, ℕ, List, length, OnOk, IfOk, IsErrOf, IsTrue, true, false, Some, is_some, []};
+ghost use Rattle.std.specs.Prelude.{◌≡◌, ◌≤◌, ◌<◌, ◌+◌, ◌*◌, ℕ, List, length, OnOk, IfOk, IsErrOf, IsTrue, true, false, Some};
+ghost use Rattle.std.specs.Prelude.{is_some, []};
 ghost use Rattle.gier_word.specs.Cause.{HasRisen};
+ghost use Rattle.gier_drum.specs.View.{drum_view, KeepsDrum, StaysTold};
 ghost use Rattle.gier_text.specs.SymbolsOnTracks.{tracks_for as tracks_of};
 ghost use Rattle.gier_text.specs.TablesModel.{tables_model};
+ghost use Rattle.gier_text.specs.Turned.{GoesOn};
 ghost use Rattle.gier_text.specs.View.{IsEmpty, IsPlacedAs, Rewinds};
 ghost use Rattle.gier_text.specs.declared.text.Way.TheVariants.{Forward};
 ghost use Rattle.gier_pass2.specs.Invariant.{IsTextOne};
 ghost use Rattle.gier_front.specs.declared.stop.FrontStop.TheVariants.{Errors, Read, Drum as DrumStop};
-ghost use Rattle.gier_areas.specs.Areas.{longest, first_of, capacity_of, all_tracks};
+ghost use Rattle.gier_limits.specs.Areas.{longest, first_of, capacity_of, all_tracks};
 ghost use Rattle.gier_symbol.specs.declared.symbol.Symbol.{Symbol};
 ghost use Rattle.gier_symbol.specs.Tape.{program_of};
 ghost use Rattle.gier_front.specs.Early.{early_faults, faults_of_one, FindsEarly, FindsFirst, ArePlain};
 ghost use Rattle.gier_front.specs.Fronted.{IsFronted, HasTextSix, FrontTakes};
-ghost use Rattle.gier_front.specs.Stages.{IsToldAs, IsNothing, AreClean, GoesOn};
+ghost use Rattle.gier_front.specs.Passes.{IsToldAs, IsNothing, AreClean};
 ghost use Rattle.gier_front.specs.Stops.{NotSpoilt};
 
-use crate::stage::{no_faults, run_stage};
+use crate::pass_contract::{no_faults, run_pass};
 use crate::stop::{FrontStop, of_pass, of_text};
-use gier_areas::{LIMIT, capacity, first_track};
 use gier_drum::Drum;
 use gier_io::Source;
+use gier_limits::{LIMIT, capacity, first_track};
 use gier_pass1::{Pass1, ReadStop};
 use gier_pass2::Pass2;
 use gier_pass3::Pass3;
@@ -43,11 +46,10 @@ pub fn front<S: Source, D: Drum>(
     ensures fronted { IfOk result IsFronted }
     ensures no_faults { OnOk result ((tables_model tables.new).faults ≡ []) }
     ensures limit { (tables_model tables.new).limit ≡ longest }
-    ensures room { D.room drum.new ≡ D.room drum.old }
-    ensures told { is_some (D.tracks drum.new) ≡ is_some (D.tracks drum.old) }
+    ensures keeps { KeepsDrum StaysTold (drum_view D.room D.tracks D.journal D.faults drum.old)
+        (drum_view D.room D.tracks D.journal D.faults drum.new) }
     ensures taken { FrontTakes result (S.left tape.old) (S.left tape.new) }
     ensures tape_later { S.faults tape.old ≤ S.faults tape.new }
-    ensures drum_later { D.faults drum.old ≤ D.faults drum.new }
     ensures errors { IsErrOf result Errors → 0 < length (tables_model tables.new).faults }
     ensures read { IsErrOf result Read → HasRisen (S.faults tape.old) (S.faults tape.new) }
     ensures drum { IsErrOf result DrumStop → HasRisen (D.faults drum.old) (D.faults drum.new) }
@@ -60,13 +62,13 @@ pub fn front<S: Source, D: Drum>(
 {
     let mut text1 = blank_text(1, LIMIT);
     match read_tape(tape, drum, &mut text1, tables) {
-        Ok(bytes) => compile(bytes, drum, &mut text1, tables),
+        Ok(bytes) => run_passes(bytes, drum, &mut text1, tables),
         Err(stop) => Err(stop),
     }
 }
 
 // The passes behind the first.
-fn compile<D: Drum>(
+fn run_passes<D: Drum>(
     bytes: u32,
     drum: &mut D,
     text1: &mut DrumText<D>,
@@ -82,9 +84,8 @@ fn compile<D: Drum>(
     ensures bytes { IfOk result (λ fronted. fronted.bytes ≡ bytes) }
     ensures clean { OnOk result (AreClean bytes (tables_model tables.new)) }
     ensures limit { (tables_model tables.new).limit ≡ (tables_model tables.old).limit }
-    ensures room { D.room drum.new ≡ D.room drum.old }
-    ensures told { is_some (D.tracks drum.new) ≡ is_some (D.tracks drum.old) }
-    ensures later { D.faults drum.old ≤ D.faults drum.new }
+    ensures keeps { KeepsDrum StaysTold (drum_view D.room D.tracks D.journal D.faults drum.old)
+        (drum_view D.room D.tracks D.journal D.faults drum.new) }
     ensures errors { IsErrOf result Errors → 0 < length (tables_model tables.new).faults }
     ensures read { IsErrOf result Read → ⊥ }
     ensures drum { IsErrOf result DrumStop → HasRisen (D.faults drum.old) (D.faults drum.new) }
@@ -97,15 +98,15 @@ fn compile<D: Drum>(
         → is_some (D.tracks drum.old) ≡ true → FindsEarly result (faults_of_one list) (tables_model tables.new).faults }
 {
     let mut text2 = blank_text(2, bytes);
-    run_stage::<Pass2, DrumText<D>>(bytes, drum, text1, &mut text2, tables)?;
+    run_pass::<Pass2, DrumText<D>>(bytes, drum, text1, &mut text2, tables)?;
     let mut text3 = blank_text(3, bytes);
-    run_stage::<Pass3, DrumText<D>>(bytes, drum, &mut text2, &mut text3, tables)?;
+    run_pass::<Pass3, DrumText<D>>(bytes, drum, &mut text2, &mut text3, tables)?;
     let mut text4 = blank_text(4, bytes);
-    run_stage::<Pass4, DrumText<D>>(bytes, drum, &mut text3, &mut text4, tables)?;
+    run_pass::<Pass4, DrumText<D>>(bytes, drum, &mut text3, &mut text4, tables)?;
     let mut text5 = blank_text(5, bytes);
-    run_stage::<Pass5, DrumText<D>>(bytes, drum, &mut text4, &mut text5, tables)?;
+    run_pass::<Pass5, DrumText<D>>(bytes, drum, &mut text4, &mut text5, tables)?;
     let mut text6 = blank_text(6, bytes);
-    run_stage::<Pass6, DrumText<D>>(bytes, drum, &mut text5, &mut text6, tables)?;
+    run_pass::<Pass6, DrumText<D>>(bytes, drum, &mut text5, &mut text6, tables)?;
     close(drum, &mut text6, tables)?;
     Ok(Fronted {
         area: 0,
@@ -140,11 +141,10 @@ fn read_tape<S: Source, T: Text>(
     ensures gives { IsToldAs IsNothing (T.view text.old store.old).held
         → IfOk result (λ bytes. IsToldAs (IsTextOne bytes) (T.view text.new store.new).held) }
     ensures place { IsPlacedAs T.first_track T.end_track text.old text.new }
-    ensures room { T.room store.new ≡ T.room store.old }
-    ensures told { is_some (T.tracks store.new) ≡ is_some (T.tracks store.old) }
+    ensures keeps { KeepsDrum StaysTold (drum_view T.room T.tracks T.journal T.faults store.old)
+        (drum_view T.room T.tracks T.journal T.faults store.new) }
     ensures taken { FrontTakes result (S.left tape.old) (S.left tape.new) }
     ensures tape_later { S.faults tape.old ≤ S.faults tape.new }
-    ensures later { T.faults store.old ≤ T.faults store.new }
     ensures errors { IsErrOf result Errors → 0 < length (tables_model tables.new).faults }
     ensures read { IsErrOf result Read → HasRisen (S.faults tape.old) (S.faults tape.new) }
     ensures drum { IsErrOf result DrumStop → HasRisen (T.faults store.old) (T.faults store.new) }
@@ -180,9 +180,8 @@ fn close<T: Text>(store: &mut T::Store, text: &mut T, tables: &mut Tables) -> Re
     ensures capacity { OnOk result ((T.view text.new store.new).capacity ≡ (T.view text.old store.old).capacity) }
     ensures rewinds { OnOk result (Rewinds (T.view text.old store.old) Forward (T.view text.new store.new)) }
     ensures place { IsPlacedAs T.first_track T.end_track text.old text.new }
-    ensures room { T.room store.new ≡ T.room store.old }
-    ensures told { is_some (T.tracks store.new) ≡ is_some (T.tracks store.old) }
-    ensures later { T.faults store.old ≤ T.faults store.new }
+    ensures keeps { KeepsDrum StaysTold (drum_view T.room T.tracks T.journal T.faults store.old)
+        (drum_view T.room T.tracks T.journal T.faults store.new) }
     ensures errors { IsErrOf result Errors → ⊥ }
     ensures read { IsErrOf result Read → ⊥ }
     ensures drum { IsErrOf result DrumStop → HasRisen (T.faults store.old) (T.faults store.new) }

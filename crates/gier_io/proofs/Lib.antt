@@ -1,2 +1,3 @@
 pub mod WritesJoined
 pub mod Lists
+pub mod Prints

@@ -1,3 +1,4 @@
 pub mod Device
+pub mod View
 pub mod Memory
 pub mod Adapter

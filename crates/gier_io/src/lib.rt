@@ -8,6 +8,7 @@ mod failing_source;
 mod failure_plan;
 mod mem_sink;
 mod mem_source;
+mod pieces;
 mod std_sink;
 mod std_source;
 #[cfg(test)]
@@ -19,5 +20,6 @@ pub use failing_source::FailingSource;
 pub use gier_word::{Failed, NoMemory};
 pub use mem_sink::MemSink;
 pub use mem_source::MemSource;
+pub use pieces::put_both;
 pub use std_sink::StdSink;
 pub use std_source::StdSource;

@@ -4,13 +4,13 @@ use Rattle.std.proofs.Common.{get_or, refl, sym, ap, subst, arith}
 use Rattle.std.proofs.lemmas.List.{take_more, take_all}
 use Rattle.gier_symbol.specs.declared.symbol.Symbol.{Symbol}
 use Rattle.gier_order.specs.declared.object.Object.{Object}
-use Rattle.gier_areas.specs.Areas.{longest, first_of}
+use Rattle.gier_limits.specs.Areas.{longest, first_of}
 use Rattle.gier_text.specs.SymbolsOnTracks.{text_on}
 use Rattle.gier_text.proofs.Tabulation.{get_or-tabulated}
 use Rattle.gier_pass9.specs.ObjectOfText.{object_words, HoldsWords}
 use Rattle.gier_back.specs.Compiled.{IsMade}
 use Rattle.gier_exec.specs.Rows.{track_of, word_in, first_of as first_words, code_in}
-use Rattle.gier_front.specs.Stages.{IsToldAs}
+use Rattle.gier_front.specs.Passes.{IsToldAs}
 use Rattle.gier_job.specs.RunAnswer.{IsDefined}
 use Rattle.gier_job.proofs.RunAnswers.{track_is}
 

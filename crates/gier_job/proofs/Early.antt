@@ -23,7 +23,7 @@ use Rattle.gier_kinds.specs.Errors.{OfSymbols, OfScopes, OfTypes, Faults, Errors
 use Rattle.gier_kinds.specs.ErrorTexts.{fault_line, fault_lines, error_lines}
 use Rattle.gier_kinds.specs.Faults.{TypeFault}
 use Rattle.gier_kinds.specs.TypeFaults.{type_faults}
-use Rattle.gier_areas.specs.Areas.{longest}
+use Rattle.gier_limits.specs.Areas.{longest}
 use Rattle.gier_front.specs.declared.stop.FrontStop.{FrontStop}
 use Rattle.gier_front.specs.declared.stop.FrontStop.TheVariants.{Errors as HasErrors}
 use Rattle.gier_front.specs.Early.{or_else, structure_faults, early_by, early_faults, AreEarly, FindsEarly}

@@ -8,3 +8,4 @@ pub mod RunAnswers
 pub mod Runs
 pub mod Early
 pub mod DefinedObject
+pub mod Answering

@@ -4,7 +4,7 @@ use Rattle.std.proofs.Common.{arith, refl, ap, sym, subst, ◌∙◌}
 use Rattle.std.proofs.lemmas.List.{append_assoc, append-nil, length-append}
 use Rattle.std.proofs.lemmas.Bool.{le-leb}
 use Rattle.gier_io.specs.Device.{Puts}
-use Rattle.gier_front.proofs.Prints.{puts_none, puts_more}
+use Rattle.gier_io.proofs.Prints.{puts_none, puts_more}
 use Rattle.gier_frames.specs.declared.stop.Activation.{Activation}
 use Rattle.gier_order.specs.Flat.Live.{Live}
 use Rattle.gier_runner.specs.Live.{live_of}

@@ -2,7 +2,7 @@
 use Rattle.std.proofs.Common.{◌≡◌, ◌≤◌, ◌<◌, ◌+◌, ℕ, zero, suc, List, [], ◌∷◌, ◌++◌, Option, length, take, drop, get_or, slice_get, None, Some, refl, ap, sym, ◌∙◌, arith, append_assoc, append-nil}
 use Rattle.gier_io.specs.Device.{Puts, PutsPart}
 use Rattle.gier_job.specs.Tails.{row_of}
-use Rattle.gier_front.proofs.Prints.{puts_more, part_more}
+use Rattle.gier_io.proofs.Prints.{puts_more, part_more}
 
 -- so many of them were printed
 pub record HasPut {A : Type 0} (text : A → List ℕ) (xs : List A) (at : ℕ) (old now : Option (List ℕ)) (count_old count_now : ℕ) : Type 0 where

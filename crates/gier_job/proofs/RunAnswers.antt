@@ -4,7 +4,7 @@ use Rattle.std.proofs.Common.{arith, inr, refl, ap, sym, subst, ◌∙◌}
 use Rattle.std.proofs.lemmas.List.{append_assoc}
 use Rattle.gier_drum.specs.declared.drum.Entry.{Entry}
 use Rattle.gier_io.specs.Device.{Puts}
-use Rattle.gier_front.proofs.Prints.{puts_more}
+use Rattle.gier_io.proofs.Prints.{puts_more}
 use Rattle.gier_order.specs.Misses.{misses}
 use Rattle.gier_order.specs.declared.object.Object.{Object}
 use Rattle.gier_order.specs.Flat.Run.{Report as FlatReport, flat}

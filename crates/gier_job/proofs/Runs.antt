@@ -1,12 +1,13 @@
 -- The run of a program that the front let stand.
 use Rattle.std.specs.Prelude.{◌≡◌, ◌≤◌, ◌++◌, ℕ, Bool, true, false, List, length, take, Option, None, Some, Ok}
 use Rattle.std.proofs.Common.{◌∙◌, arith, refl, ap, subst, sym}
+use Rattle.gier_word.proofs.Options.{some_same}
 use Rattle.gier_drum.specs.declared.drum.Entry.{Entry}
 use Rattle.gier_library.specs.Data.{limit}
 use Rattle.gier_order.specs.declared.object.Object.{Object}
 use Rattle.gier_order.specs.Misses.{misses}
 use Rattle.gier_order.specs.Flat.Run.{flat, Report}
-use Rattle.gier_areas.specs.Areas.{longest, words_of}
+use Rattle.gier_limits.specs.Areas.{longest, words_of}
 use Rattle.gier_front.specs.Fronted.{IsFronted, HasTextSix}
 use Rattle.gier_text.specs.declared.fronted.Fronted.{Fronted}
 use Rattle.gier_back.specs.Compiled.{IsObject}
@@ -34,9 +35,6 @@ input_of : (sample : Option ℕ) (fronted : Fronted) (all : List ℕ) (new : Opt
     → (input : List ℕ) × (new ≡ Some input) × TakesFor sample Done (Some all) (Some input)
 input_of None fronted all new takes = (_, takes, refl)
 input_of (Some calls) fronted all new takes = (all, takes, refl)
-
-some_same : (x y : List ℕ) → Some x ≡ Some y → x ≡ y
-some_same x y h = cc
 
 pub has_run : (tracks : List (List ℕ)) (c : Command) (most : ℕ) (fronted : Fronted) (all : List ℕ)
     (tape left : Option (List ℕ)) (compiled : Option (List (List ℕ)))

@@ -7,7 +7,8 @@ use Rattle.gier_front.specs.declared.stop.FrontStop.{FrontStop}
 use Rattle.gier_front.specs.Fronted.{FrontTakes}
 use Rattle.gier_front.specs.Printed.{errors_text}
 use Rattle.gier_job.specs.declared.status.Status.{Status}
-use Rattle.gier_job.specs.declared.status.Status.TheVariants.{Done, Errors, Words, Alarm, Steps, Tape, Printer, Drum, Memory, Spoilt}
+use Rattle.gier_job.specs.declared.status.Status.TheVariants.{Done, Errors, Words, Alarm, Steps, Tape, Printer, Drum, Memory}
+use Rattle.gier_job.specs.declared.status.Status.TheVariants.{Spoilt}
 
 -- the lines of some errors were printed, or a part of them
 pub record PrintsErrors (old new : Option (List ℕ)) : Type 0 where

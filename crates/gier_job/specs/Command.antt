@@ -1,5 +1,6 @@
 -- Which lists of words are a command, and which is the first wrong word of all others.
-use Rattle.std.specs.Prelude.{◌≡◌, ◌≢◌, ◌≤◌, ◌<◌, ◌^◌, ◌-◌, ◌⊎◌, ℕ, Bool, true, false, List, [], ◌∷◌, Option, None, Some, take, length, codes, All, ⊤}
+use Rattle.std.specs.Prelude.{◌≡◌, ◌≢◌, ◌≤◌, ◌<◌, ◌^◌, ◌-◌, ◌⊎◌, ℕ, Bool, true, false, List, [], ◌∷◌, Option, None, Some, take}
+use Rattle.std.specs.Prelude.{length, codes, All, ⊤}
 use Rattle.std.specs.List.{AllZip}
 use Rattle.gier_runner.specs.declared.settings.Settings.{Settings}
 use Rattle.gier_job.specs.Words.{Makes}
@@ -36,6 +37,11 @@ pub record IsWithin (settings : Settings) : Type 0 where
   pub least : 1 ≤ settings.places
   pub most : settings.places ≤ 64
   pub stack : settings.stack < 2 ^ 24
+
+-- a command that words may ask for
+pub record IsPermitted (command : Command) : Type 0 where
+  pub few : IsFew command.sample
+  pub within : IsWithin command.settings
 
 -- what holds where no word says otherwise
 abbrev pub plain_command : Bool → Command

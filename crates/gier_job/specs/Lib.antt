@@ -2,6 +2,7 @@ pub mod Words
 pub mod Command
 pub mod Tails
 pub mod Status
+pub mod Devices
 pub mod Answer
 pub mod Checked
 pub mod RunTails

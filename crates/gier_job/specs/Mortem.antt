@@ -1,6 +1,7 @@
 -- What a post-mortem prints, by the live activations and the lines that were found: one for the order that stopped, and one
 -- for each activation that is told.
-use Rattle.std.specs.Prelude.{◌≤◌, ◌-◌, ◌++◌, ℕ, Bool, true, false, nat_le, if◌then◌else◌, List, [], ◌∷◌, length, take, codes, decimal, Option}
+use Rattle.std.specs.Prelude.{◌≤◌, ◌-◌, ◌++◌, ℕ, Bool, true, false, nat_le, if◌then◌else◌, List, [], ◌∷◌, length, take, codes}
+use Rattle.std.specs.Prelude.{decimal, Option}
 use Rattle.gier_io.specs.Device.{Puts}
 use Rattle.gier_order.specs.Flat.Live.{Live, Shape, Program, Block, Procedure, Evaluation}
 use Rattle.gier_job.specs.RunTails.{most_told}

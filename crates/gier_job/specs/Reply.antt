@@ -1,6 +1,7 @@
 -- What a command answers to a tape: the status, the printed bytes, and what is taken from the tape. Devices that fail aren't
 -- spoken of here, nor is want of memory.
-use Rattle.std.specs.Prelude.{◌≡◌, ◌++◌, ◌-◌, ◌/◌, ℕ, suc, Bool, true, false, nat_lt, List, [], ◌∷◌, map, take, length, Option, None, Some}
+use Rattle.std.specs.Prelude.{◌≡◌, ◌++◌, ◌-◌, ◌/◌, ℕ, suc, Bool, true, false, nat_lt, List, [], ◌∷◌, map, take, length, Option}
+use Rattle.std.specs.Prelude.{None, Some}
 use Rattle.gier_symbol.specs.Tape.{program_of, data_of, most_data}
 use Rattle.gier_symbol.specs.Reading.{symbols_of}
 use Rattle.gier_symbol.specs.Assembly.{assembly}
@@ -79,5 +80,6 @@ reply_to c tape =
 
 -- the reply to any words: the first wrong one is told, or the command that they are is obeyed
 pub record IsReply (words : List (List ℕ)) (tape : List ℕ) (reply : Reply) : Type 0 where
-  pub refused : (number : ℕ) → IsFirstWrong words number → reply ≡ record { status = Words; printed = wrong_word_tail number; taken = [] }
+  pub refused : (number : ℕ) → IsFirstWrong words number
+      → reply ≡ record { status = Words; printed = wrong_word_tail number; taken = [] }
   pub accepted : (command : Command) → IsCommand words command → reply ≡ reply_to command tape

@@ -44,12 +44,15 @@ stopped_in_sum =
 
 pub record AreReplied : Type 0 where
   pub printed : reply_to (short_run 8 50) prints ≡ reply Done (codes "5\n") prints
-  pub reported : reply_to (record (short_run 8 50) { report = true }) loops ≡ reply Done (codes "17\n*** steps 3 transfers 1 words 9\n") loops
+  pub reported : reply_to (record (short_run 8 50) { report = true }) loops ≡ reply Done
+      (codes "17\n*** steps 3 transfers 1 words 9\n") loops
   pub taken : reply_to (short_run 8 50) (takes_data ++ codes "42 7") ≡ reply Done (codes "42") (takes_data ++ codes "42 ")
   pub checked : reply_to (plain_command true) (line_feed ++ codes "#rest") ≡ reply Done [] (line_feed ++ codes "#")
-  pub refused : reply_to (plain_command true) (with_error ++ codes "rest") ≡ reply Errors (codes "line 2 not declared\nline 2 not declared\n") with_error
+  pub refused : reply_to (plain_command true) (with_error ++ codes "rest") ≡ reply Errors
+      (codes "line 2 not declared\nline 2 not declared\n") with_error
   pub stopped : reply_to (record (short_run 8 50) { mortem = true }) assigns_to_sum ≡ reply Alarm stopped_in_sum assigns_to_sum
   pub out_of_steps : reply_to (short_run 8 3) endless ≡ reply Steps (codes "AAAA\n*** steps\n") endless
   pub planned : reply_to (record (short_run 1 50) { best = true }) line_feed ≡ reply Done (codes "\n\n*** best 1 0/1\n") line_feed
-  pub counted : reply_to (record (short_run 8 50) { report = true }) counts_own ≡ reply Done (codes "12\n*** steps 6 transfers 1 words 20\n") counts_own
+  pub counted : reply_to (record (short_run 8 50) { report = true }) counts_own ≡ reply Done
+      (codes "12\n*** steps 6 transfers 1 words 20\n") counts_own
   pub sampled : reply_to (record (short_run 8 50) { sample = Some 0 }) (codes "abc") ≡ reply Done (codes "0\n") []

@@ -11,7 +11,7 @@ use Rattle.gier_library.specs.Data.{limit}
 use Rattle.gier_symbol.specs.declared.symbol.Symbol.{Symbol}
 use Rattle.gier_tree.specs.Object.{object_of}
 use Rattle.gier_text.specs.SymbolsOnTracks.{text_on}
-use Rattle.gier_areas.specs.Areas.{longest, first_of, object_first, words_of}
+use Rattle.gier_limits.specs.Areas.{longest, first_of, object_first, words_of}
 use Rattle.gier_pass7.specs.Invariant.{IsShort}
 use Rattle.gier_pass8.specs.Exact.{IsComplete}
 use Rattle.gier_pass9.specs.Objects.{IsText7}
@@ -56,7 +56,12 @@ flat_has_mortem asked (IsSpoilt place word) = false
 abbrev pub flat_tails : Command → (most : ℕ) → Object → Report → List ℕ
 flat_tails c most object report =
     flat_end_tail report.ending
-    ++ count_tails c (record { steps = report.steps; transfers = length (misses (tracks_of object report.refs) c.settings.places); words = report.words })
+    ++ count_tails c (record {
+      steps = report.steps;
+      transfers
+          = length (misses (tracks_of object report.refs) c.settings.places);
+      words = report.words;
+    })
     most (tracks_of object report.refs) (notes_of report.refs)
 
 -- What was printed is what the flat run prints, and then its tails; the drum's journal ends with a read for each miss, and
@@ -64,7 +69,8 @@ flat_tails c most object report =
 pub record IsAnswered (c : Command) (most : ℕ) (object : Object) (report : Report) (status : Status)
     (old new : Option (List ℕ)) (journal : Option (List Entry)) : Type 0 where
   pub ended : status ≡ status_of report.ending
-  pub printed : PutsTails (flat_has_mortem c.mortem report.ending) (report.printed ++ flat_tails c most object report) report.live old new
+  pub printed : PutsTails (flat_has_mortem c.mortem report.ending) (report.printed
+      ++ flat_tails c most object report) report.live old new
   pub read : c.mortem ≡ false
       → (before : Option (List Entry)) × LogsReads before (misses (tracks_of object report.refs) c.settings.places) journal
 
@@ -75,8 +81,8 @@ pub record IsPlaced (object : Object) : Type 0 where
   pub some : 1 ≤ object.words
   pub few : object.words ≤ words_of longest
 
--- Text 7 of a program of so many bytes lies behind the first area, and after a post-mortem lay there; where all of it is known by its
--- end, the object's words are those that are defined from it.
+-- Text 7 of a program of so many bytes lies behind the first area, and after a post-mortem lay there; where all of it is known by
+-- its end, the object's words are those that are defined from it.
 pub record IsDefined (bytes : ℕ) (tracks : List (List ℕ)) (mortem : Bool) (object : Object) : Type 0 where
   pub seven : List Symbol
   pub held : mortem ≡ false → text_on (Some tracks) (first_of 7) (slice_index object.lengths 6) ≡ Some seven
@@ -94,4 +100,5 @@ pub record HasRun (tracks : List (List ℕ)) (c : Command) (most : ℕ) (tape : 
   pub defined : IsDefined bytes tracks c.mortem object
   pub input : List ℕ
   pub takes : TakesFor c.sample Done tape (Some input)
-  pub answers : IsAnswered c most object (flat (code_in tracks object) object.start (take limit input) c.settings.steps c.settings.stack) status old new journal
+  pub answers : IsAnswered c most object (flat (code_in tracks object) object.start
+      (take limit input) c.settings.steps c.settings.stack) status old new journal

@@ -1,6 +1,7 @@
 -- What is printed behind what a program printed, by what is told of its run: how it ended, the report, the table of misses, the
 -- cheapest plan, and where it stopped.
-use Rattle.std.specs.Prelude.{◌++◌, ◌-◌, ℕ, zero, suc, Bool, true, false, nat_lt, List, [], ◌∷◌, take, length, codes, decimal, Option, None, Some}
+use Rattle.std.specs.Prelude.{◌++◌, ◌-◌, ℕ, zero, suc, Bool, true, false, nat_lt, List, [], ◌∷◌, take, length, codes, decimal}
+use Rattle.std.specs.Prelude.{Option, None, Some}
 use Rattle.gier_word.specs.Alarm.{name_of}
 use Rattle.gier_order.specs.Misses.{misses}
 use Rattle.gier_best.specs.Plan.{farthest}

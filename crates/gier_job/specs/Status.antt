@@ -4,7 +4,8 @@ use Rattle.gier_word.specs.declared.refusal.Failed.{Failed}
 use Rattle.gier_runner.specs.declared.ending.Ending.{Ending}
 use Rattle.gier_runner.specs.declared.ending.Ending.TheVariants as ending
 use Rattle.gier_job.specs.declared.status.Status.{Status}
-use Rattle.gier_job.specs.declared.status.Status.TheVariants.{Done, Errors, Words, Alarm, Steps, Tape, Printer, Drum, Memory, Spoilt}
+use Rattle.gier_job.specs.declared.status.Status.TheVariants.{Done, Errors, Words, Alarm, Steps, Tape, Printer, Drum, Memory}
+use Rattle.gier_job.specs.declared.status.Status.TheVariants.{Spoilt}
 
 abbrev pub status_number : Status → ℕ
 status_number Done = 0

@@ -39,7 +39,8 @@ misses_tail asked tracks = if_asked asked (table_tail (table_from tracks most_pl
 
 -- by the tracks within the object; a plan is made for at most so many changes of track
 abbrev pub best_plan_tail : (asked : Bool) → (most : ℕ) → (tracks : List ℕ) → (places : ℕ) → List ℕ
-best_plan_tail asked most tracks places = if_asked asked (plan_tail (nat_lt most (length (changes_of tracks))) (farthest tracks places))
+best_plan_tail asked most tracks places = if_asked asked (plan_tail (nat_lt most (length (changes_of tracks)))
+    (farthest tracks places))
 
 abbrev pub cost_tails : Command → (most : ℕ) → (tracks notes : List ℕ) → List ℕ
 cost_tails c most tracks notes = misses_tail c.table tracks ++ best_plan_tail c.best most notes c.settings.places

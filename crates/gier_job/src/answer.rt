@@ -1,16 +1,12 @@
 // The top call: the words are read, all room is taken, and the work is done.
-ghost use Rattle.std.specs.Prelude.{◌≡◌, ◌≢◌, ◌≤◌, [], ℕ, List, map, true, false, is_some, Some, IfOk};
+ghost use Rattle.std.specs.Prelude.{◌≡◌, ◌≢◌, ◌≤◌, ℕ, map, true, IfOk};
 ghost use Rattle.std.specs.String.{string_bytes};
 ghost use Rattle.gier_word.specs.Cause.{HasRisen};
-ghost use Rattle.gier_areas.specs.Areas.{object_tracks, longest};
-ghost use Rattle.gier_job.specs.Checked.{Prints, PrintsErrors, TakesFor, IsNotSpoilt};
-ghost use Rattle.gier_job.specs.Command.{IsCommand, IsFew, IsWithin, IsFirstWrong};
-ghost use Rattle.gier_job.specs.Answer.{Refuses};
+ghost use Rattle.gier_limits.specs.Areas.{object_tracks, longest};
+ghost use Rattle.gier_job.specs.Answer.{Refuses, Answers};
+ghost use Rattle.gier_job.specs.Command.{IsCommand, IsPermitted, IsWithin, IsFirstWrong};
+ghost use Rattle.gier_job.specs.Devices.{devices, NamesFailed};
 ghost use Rattle.gier_job.specs.RunTails.{most_changes};
-ghost use Rattle.gier_job.specs.RunAnswer.{IsRunEnd, HasRun};
-ghost use Rattle.gier_job.specs.Reply.{text_for};
-ghost use Rattle.gier_job.specs.Early.{AnswersEarly};
-ghost use Rattle.gier_kinds.specs.Errors.{errors};
 ghost use Rattle.gier_job.specs.declared.command.Command.{Command};
 ghost use Rattle.gier_job.specs.declared.status.Status.TheVariants.{Errors, Words, Tape, Printer, Drum as DrumStatus, Memory};
 
@@ -18,9 +14,9 @@ use crate::command::{Command, read_words};
 use crate::printing::put_wrong_word;
 use crate::status::Status;
 use crate::working::work;
-use gier_areas::{LIMIT, object_track, tracks_for};
 use gier_drum::{Drum, RoomFault};
 use gier_io::{Sink, Source};
+use gier_limits::{LIMIT, object_track, tracks_for};
 use gier_runner::Runner;
 use gier_text::Tables;
 use gier_word::NoMemory;
@@ -47,72 +43,40 @@ pub fn gier<S: Source, K: Sink, D: Drum>(
     // For want of memory nothing was done.
     ensures untouched { result ≡ Memory → (out.new ≡ out.old) × (tape.new ≡ tape.old) }
 
-    // `check` prints the errors of the program and nothing else, and just the program text is taken.
-    ensures checks { (command : Command) → IsCommand (map string_bytes words.now) command → command.check ≡ true →
-        Prints result (K.holds out.old) (K.holds out.new) × TakesFor command.sample result (S.left tape.old) (S.left tape.new) }
-    ensures sound { (command : Command) → IsCommand (map string_bytes words.now) command → command.check ≡ true →
-        is_some (D.tracks drum.old) ≡ true → IsNotSpoilt result }
-
-    // `run` prints the errors too, and nothing is run then.
-    ensures errors { (command : Command) → IsCommand (map string_bytes words.now) command → result ≡ Errors →
-        PrintsErrors (K.holds out.old) (K.holds out.new) × TakesFor command.sample Errors (S.left tape.old) (S.left tape.new) }
-
-    // Where the devices tell what they hold, errors of bytes, words, strings, numbers and structure are printed exactly, and so is
-    // that a program is too long; and with such errors no program ends well or is run.
-    ensures early { (command : Command) (bytes : List ℕ) → IsCommand (map string_bytes words.now) command
-        → S.left tape.old ≡ Some bytes → is_some (D.tracks drum.old) ≡ true
-        → AnswersEarly result (errors (text_for command.sample bytes)) (K.holds out.old) (K.holds out.new) }
-
-    // Where the devices tell what they hold, a run that no device stopped prints what the flat run of its object prints, and
-    // then the tails. Which lines a post-mortem names isn't said.
-    ensures runs { (command : Command) (tracks : List (List ℕ)) (all : List ℕ) → IsCommand (map string_bytes words.now) command
-        → command.check ≡ false →
-        D.tracks drum.new ≡ Some tracks → S.left tape.old ≡ Some all → IsRunEnd result →
-        HasRun tracks command most_changes (S.left tape.old) result (K.holds out.old) (K.holds out.new) (D.journal drum.new) }
+    // What a command asks for is answered.
+    ensures answers { (command : Command) → IsCommand (map string_bytes words.now) command → Answers command most_changes result
+        (devices S.left S.faults K.holds K.faults D.room D.tracks D.journal D.faults tape.old out.old drum.old)
+        (devices S.left S.faults K.holds K.faults D.room D.tracks D.journal D.faults tape.new out.new drum.new) }
 
     // A device is named only where it failed in this call.
-    ensures tape_fault { result ≡ Tape → HasRisen (S.faults tape.old) (S.faults tape.new) }
-    ensures printer_fault { result ≡ Printer → HasRisen (K.faults out.old) (K.faults out.new) }
-    ensures drum_fault { result ≡ DrumStatus → HasRisen (D.faults drum.old) (D.faults drum.new) }
-    ensures tape_later { S.faults tape.old ≤ S.faults tape.new }
-    ensures printer_later { K.faults out.old ≤ K.faults out.new }
-    ensures drum_later { D.faults drum.old ≤ D.faults drum.new }
+    ensures faults { NamesFailed result
+        (devices S.left S.faults K.holds K.faults D.room D.tracks D.journal D.faults tape.old out.old drum.old)
+        (devices S.left S.faults K.holds K.faults D.room D.tracks D.journal D.faults tape.new out.new drum.new) }
 {
     match read_words(words) {
-        Ok(command) => obey(alloc, &command, tape, out, drum),
+        Ok(command) => open_and_work(alloc, &command, tape, out, drum),
         Err(number) => refuse(number, out),
     }
 }
 
 // Takes the drum's room, the tables and the runner, in this order, and does the work.
-fn obey<S: Source, K: Sink, D: Drum>(
+#[tactic(auto, using(crate::proofs::Answering::answers_memory, crate::proofs::Answering::answers_drum))]
+fn open_and_work<S: Source, K: Sink, D: Drum>(
     alloc: Global,
     command: &Command,
     tape: &mut S,
     out: &mut K,
     drum: &mut D,
 ) -> Status
-    requires few { IsFew command.now.sample }
-    requires within { IsWithin command.now.settings }
+    requires permitted { IsPermitted command.now }
     ensures not_words { result ≢ Words }
     ensures untouched { result ≡ Memory → (out.new ≡ out.old) × (tape.new ≡ tape.old) }
-    ensures checks { command.now.check ≡ true → Prints result (K.holds out.old) (K.holds out.new) }
-    ensures checked { command.now.check ≡ true → TakesFor command.now.sample result (S.left tape.old) (S.left tape.new) }
-    ensures sound { command.now.check ≡ true → is_some (D.tracks drum.old) ≡ true → IsNotSpoilt result }
-    ensures errors { result ≡ Errors → PrintsErrors (K.holds out.old) (K.holds out.new) }
-    ensures erring { result ≡ Errors → TakesFor command.now.sample Errors (S.left tape.old) (S.left tape.new) }
-    ensures early { (bytes : List ℕ) → S.left tape.old ≡ Some bytes → is_some (D.tracks drum.old) ≡ true
-        → AnswersEarly result (errors (text_for command.now.sample bytes)) (K.holds out.old) (K.holds out.new) }
-    ensures runs { (tracks : List (List ℕ)) (all : List ℕ) → command.now.check ≡ false → D.tracks drum.new ≡ Some tracks
-        → S.left tape.old ≡ Some all
-        → IsRunEnd result → HasRun tracks command.now most_changes (S.left tape.old) result (K.holds out.old) (K.holds out.new)
-        (D.journal drum.new) }
-    ensures tape_fault { result ≡ Tape → HasRisen (S.faults tape.old) (S.faults tape.new) }
-    ensures printer_fault { result ≡ Printer → HasRisen (K.faults out.old) (K.faults out.new) }
-    ensures drum_fault { result ≡ DrumStatus → HasRisen (D.faults drum.old) (D.faults drum.new) }
-    ensures tape_later { S.faults tape.old ≤ S.faults tape.new }
-    ensures printer_later { K.faults out.old ≤ K.faults out.new }
-    ensures drum_later { D.faults drum.old ≤ D.faults drum.new }
+    ensures answers { Answers command.now most_changes result
+        (devices S.left S.faults K.holds K.faults D.room D.tracks D.journal D.faults tape.old out.old drum.old)
+        (devices S.left S.faults K.holds K.faults D.room D.tracks D.journal D.faults tape.new out.new drum.new) }
+    ensures faults { NamesFailed result
+        (devices S.left S.faults K.holds K.faults D.room D.tracks D.journal D.faults tape.old out.old drum.old)
+        (devices S.left S.faults K.holds K.faults D.room D.tracks D.journal D.faults tape.new out.new drum.new) }
 {
     match drum.make_room(tracks_for(LIMIT)) {
         Ok(()) => {}

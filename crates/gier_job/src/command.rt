@@ -4,7 +4,8 @@ ghost use Rattle.std.specs.String.{string_bytes};
 ghost use Rattle.gier_job.specs.Words.{IsPermitted, Makes};
 ghost use Rattle.gier_job.specs.declared.command.Command.{Command};
 ghost use Rattle.gier_job.specs.declared.words.Setting.{Setting};
-ghost use Rattle.gier_job.specs.Command.{MayStand, NotGiven, plain_command, with_key, with_settings, IsFew, IsWithin, IsCommand, IsFirstWrong, mode_word};
+ghost use Rattle.gier_job.specs.Command.{MayStand, NotGiven, plain_command, with_key, with_settings, IsFew, IsWithin};
+ghost use Rattle.gier_job.specs.Command.{IsCommand, IsFirstWrong, mode_word};
 
 use crate::words::{Key, Setting, read_setting};
 use arrayvec::ArrayVec;

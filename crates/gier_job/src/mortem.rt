@@ -2,7 +2,7 @@
 ghost use Rattle.std.specs.Prelude.{◌≡◌, ◌≤◌, ◌<◌, ◌+◌, ℕ, [], length, map, slice_index, OnOk, IfErr, IsErrOf};
 ghost use Rattle.gier_word.specs.Cause.{HasCause, HasRisen};
 ghost use Rattle.gier_text.specs.View.{KeepsTracks};
-ghost use Rattle.gier_areas.specs.Areas.{longest, all_tracks, capacity_of, first_of, object_first};
+ghost use Rattle.gier_limits.specs.Areas.{longest, all_tracks, capacity_of, first_of, object_first};
 ghost use Rattle.gier_frames.specs.Stop.{activations};
 ghost use Rattle.gier_io.specs.Device.{Puts};
 ghost use Rattle.gier_runner.specs.Live.{shape_of, live_of};
@@ -14,7 +14,7 @@ use crate::printing::put_named;
 use crate::status::{Status, of_printer};
 use gier_drum::Drum;
 use gier_frames::{Activation, Frames, Shape};
-use gier_front::{first_track, put_both};
+use gier_front::first_track;
 use gier_io::Sink;
 use gier_mortem::{LineStop, Lines};
 use gier_order::Object;
@@ -39,14 +39,9 @@ pub(crate) fn put_mortem<K: Sink, D: Drum>(
 ) -> Result<(), Status>
     requires text { slice_index object.now.lengths 6 ≤ capacity_of longest }
     requires room { all_tracks longest ≤ D.room drum.old }
-    ensures tracks { KeepsTracks (first_of 7) object_first (D.tracks drum.old) (D.tracks drum.new) }
     ensures put { OnOk result (PutsMortem [] (map live_of (activations runner.now.frames)) (K.holds out.old) (K.holds out.new)) }
-    ensures room { D.room drum.new ≡ D.room drum.old }
-    ensures stop { IfErr result IsStop }
-    ensures printer_fault { IsErrOf result Printer → HasRisen (K.faults out.old) (K.faults out.new) }
-    ensures drum_fault { IsErrOf result DrumStatus → HasRisen (D.faults drum.old) (D.faults drum.new) }
-    ensures printer_later { K.faults out.old ≤ K.faults out.new }
-    ensures drum_later { D.faults drum.old ≤ D.faults drum.new }
+    ensures stops { StopsBehind result (sink_view K.holds K.faults out.old) (sink_view K.holds K.faults out.new)
+        (drum_view D.room D.tracks D.journal D.faults drum.old) (drum_view D.room D.tracks D.journal D.faults drum.new) }
 {
     let mut lines = asked_lines(runner);
     match find_lines(&mut lines, object, drum) {
@@ -108,7 +103,7 @@ fn put_stop<K: Sink>(lines: &Lines, frames: &Frames, out: &mut K) -> Result<(), 
 }
 
 // A number behind a text, and the end of the line.
-#[tactic(auto, using(gier_front::proofs::Prints::puts_more))]
+#[tactic(auto, using(gier_io::proofs::Prints::puts_more))]
 fn put_line<K: Sink>(text: &[u8], number: u32, out: &mut K) -> Result<(), Failed>
     ensures put { OnOk result (Puts (K.holds out.old) (line_text text.now number) (K.holds out.new)) }
     ensures cause { HasCause (K.faults out.old) (K.faults out.new) result }
@@ -136,7 +131,7 @@ fn put_activations<K: Sink>(lines: &Lines, frames: &Frames, out: &mut K) -> Resu
     put_rest(frames.count(), out)
 }
 
-#[tactic(auto, using(gier_front::proofs::Prints::puts_more))]
+#[tactic(auto, using(gier_io::proofs::Prints::puts_more))]
 fn put_activation<K: Sink>(activation: Activation, line: u32, out: &mut K) -> Result<(), Failed>
     ensures put { OnOk result (Puts (K.holds out.old) (live_text (live_of activation) line) (K.holds out.new)) }
     ensures cause { HasCause (K.faults out.old) (K.faults out.new) result }
@@ -161,7 +156,7 @@ fn put_shape<K: Sink>(shape: Shape, line: u32, out: &mut K) -> Result<(), Failed
 }
 
 // How many activations were not told, where there are more.
-#[tactic(auto, using(gier_front::proofs::Prints::puts_none, gier_front::proofs::Prints::puts_more))]
+#[tactic(auto, using(gier_io::proofs::Prints::puts_none, gier_io::proofs::Prints::puts_more))]
 fn put_rest<K: Sink>(count: u32, out: &mut K) -> Result<(), Failed>
     ensures put { OnOk result (Puts (K.holds out.old) (untold_text count) (K.holds out.new)) }
     ensures cause { HasCause (K.faults out.old) (K.faults out.new) result }

@@ -1,8 +1,11 @@
 // Runs a checked program: its object is made, run, and what the command asks for is printed behind what the program printed.
-ghost use Rattle.std.specs.Prelude.{◌≡◌, ◌≢◌, ◌≤◌, ◌<◌, ◌+◌, ◌^◌, ◌++◌, ℕ, List, [], IsOk, IsErr, IsErrOf, IfErr, IfOk, IfSome, OnOk, Some, length, map, take, slice_index, is_some, true, false};
+ghost use Rattle.std.specs.Prelude.{◌≡◌, ◌≢◌, ◌≤◌, ◌<◌, ◌+◌, ◌^◌, ◌++◌, ℕ, List, [], IsOk, IsErr, IsErrOf, IfErr, IfOk, IfSome};
+ghost use Rattle.std.specs.Prelude.{OnOk, Some, length, map, take, slice_index, is_some, true, false};
 ghost use Rattle.gier_word.specs.Cause.{HasCause, HasRisen};
 ghost use Rattle.gier_text.specs.TablesModel.{tables_model};
+ghost use Rattle.gier_drum.specs.View.{drum_view, KeepsDrum, StaysTold};
 ghost use Rattle.gier_io.specs.Device.{Puts};
+ghost use Rattle.gier_io.specs.View.{sink_view, PutsOrFails};
 ghost use Rattle.gier_order.specs.Counts.{StandsFor as Counts};
 ghost use Rattle.gier_best.specs.TraceModel.{HasNoted, AreTracks};
 ghost use Rattle.gier_library.specs.Data.{limit};
@@ -12,17 +15,18 @@ ghost use Rattle.gier_exec.specs.Rows.{code_in};
 ghost use Rattle.gier_back.specs.Compiled.{IsObject};
 ghost use Rattle.gier_runner.specs.State.{report_of};
 ghost use Rattle.gier_exec.specs.Reading.{tracks_for};
-ghost use Rattle.gier_text.specs.View.{KeepsTracks};
-ghost use Rattle.gier_areas.specs.Areas.{longest, all_tracks, object_tracks, capacity_of, first_of, object_first};
+ghost use Rattle.gier_limits.specs.Areas.{longest, all_tracks, object_tracks, capacity_of, first_of, object_first};
 ghost use Rattle.gier_front.specs.Fronted.{IsFronted, HasTextSix};
 ghost use Rattle.gier_job.specs.Command.{IsWithin};
-ghost use Rattle.gier_job.specs.Status.{of_ending, IsOfRun, IsStop};
+ghost use Rattle.gier_job.specs.Devices.{devices, NamesFailed, StopsBehind};
+ghost use Rattle.gier_job.specs.Status.{of_ending, IsOfRun};
 ghost use Rattle.gier_job.specs.RunTails.{table_from, most_places};
 ghost use Rattle.gier_job.specs.RunAnswer.{IsRunEnd, IsAnswered, IsDefined};
 ghost use Rattle.gier_frames.specs.Stop.{activations};
 ghost use Rattle.gier_runner.specs.Live.{live_of};
 ghost use Rattle.gier_job.specs.Mortem.{PutsTails};
-ghost use Rattle.gier_job.specs.TailsOfRun.{end_tail, taken_tail, misses_tail, best_plan_tail, cost_tails, count_tails, run_tails, has_mortem};
+ghost use Rattle.gier_job.specs.TailsOfRun.{end_tail, taken_tail, misses_tail, best_plan_tail, cost_tails, count_tails};
+ghost use Rattle.gier_job.specs.TailsOfRun.{run_tails, has_mortem};
 ghost use Rattle.gier_job.specs.declared.status.Status.TheVariants.{Tape, Printer, Drum as DrumStatus};
 
 use crate::Command;
@@ -67,17 +71,14 @@ pub(crate) fn run_fronted<S: Source, K: Sink, D: Drum>(
         × IsAnswered command.now runner.old.trace.limit object
         (flat (code_in tracks object) object.start (take limit bytes) command.now.settings.steps command.now.settings.stack)
         result (K.holds out.old) (K.holds out.new) (D.journal drum.new) }
-    ensures told { is_some (D.tracks drum.new) ≡ is_some (D.tracks drum.old) }
     ensures limit { (tables_model tables.new).limit ≡ longest }
-    ensures room { D.room drum.new ≡ D.room drum.old }
+    ensures keeps { KeepsDrum StaysTold (drum_view D.room D.tracks D.journal D.faults drum.old)
+        (drum_view D.room D.tracks D.journal D.faults drum.new) }
     ensures settings { runner.new.settings ≡ runner.old.settings }
     ensures traces { runner.new.trace.tracks ≡ runner.old.trace.tracks }
-    ensures tape_fault { result ≡ Tape → HasRisen (S.faults tape.old) (S.faults tape.new) }
-    ensures printer_fault { result ≡ Printer → HasRisen (K.faults out.old) (K.faults out.new) }
-    ensures drum_fault { result ≡ DrumStatus → HasRisen (D.faults drum.old) (D.faults drum.new) }
-    ensures tape_later { S.faults tape.old ≤ S.faults tape.new }
-    ensures printer_later { K.faults out.old ≤ K.faults out.new }
-    ensures drum_later { D.faults drum.old ≤ D.faults drum.new }
+    ensures faults { NamesFailed result
+        (devices S.left S.faults K.holds K.faults D.room D.tracks D.journal D.faults tape.old out.old drum.old)
+        (devices S.left S.faults K.holds K.faults D.room D.tracks D.journal D.faults tape.new out.new drum.new) }
 {
     let object = match back(fronted, drum, tables) {
         Ok(object) => object,
@@ -106,18 +107,14 @@ fn conclude<K: Sink, D: Drum>(
     requires room { all_tracks longest ≤ D.room drum.old }
     ensures put { (tracks notes : List ℕ) → Counts runner.old.recent tracks → HasNoted runner.old.trace notes
         → OnOk result (PutsTails (has_mortem command.now.mortem ending)
-        (run_tails ending command.now (report_of runner.old) runner.old.trace.limit tracks notes) (map live_of (activations runner.old.frames))
+        (run_tails ending command.now (report_of runner.old) runner.old.trace.limit tracks notes)
+        (map live_of (activations runner.old.frames))
         (K.holds out.old) (K.holds out.new)) }
-    ensures tracks { KeepsTracks (first_of 7) object_first (D.tracks drum.old) (D.tracks drum.new) }
     ensures untouched { command.now.mortem ≡ false → drum.new ≡ drum.old }
-    ensures stop { IfErr result IsStop }
-    ensures room { D.room drum.new ≡ D.room drum.old }
     ensures settings { runner.new.settings ≡ runner.old.settings }
     ensures traces { runner.new.trace.tracks ≡ runner.old.trace.tracks }
-    ensures printer_fault { IsErrOf result Printer → HasRisen (K.faults out.old) (K.faults out.new) }
-    ensures drum_fault { IsErrOf result DrumStatus → HasRisen (D.faults drum.old) (D.faults drum.new) }
-    ensures printer_later { K.faults out.old ≤ K.faults out.new }
-    ensures drum_later { D.faults drum.old ≤ D.faults drum.new }
+    ensures stops { StopsBehind result (sink_view K.holds K.faults out.old) (sink_view K.holds K.faults out.new)
+        (drum_view D.room D.tracks D.journal D.faults drum.old) (drum_view D.room D.tracks D.journal D.faults drum.new) }
 {
     match ending {
         Ending::Ended => of_printer(put_counts(command, runner, out)),
@@ -136,7 +133,7 @@ fn conclude<K: Sink, D: Drum>(
 }
 
 // How the run ended, and what is asked for of it.
-#[tactic(auto, using(gier_front::proofs::Prints::puts_more))]
+#[tactic(auto, using(gier_io::proofs::Prints::puts_more))]
 fn put_stopped<K: Sink>(
     command: &Command,
     ending: Ending,
@@ -149,7 +146,8 @@ fn put_stopped<K: Sink>(
     ensures traces { runner.new.trace.tracks ≡ runner.old.trace.tracks }
     ensures frames { runner.new.frames ≡ runner.old.frames }
     ensures put { (tracks notes : List ℕ) → Counts runner.old.recent tracks → HasNoted runner.old.trace notes →
-        OnOk result (Puts (K.holds out.old) (end_tail ending ++ count_tails command.now (report_of runner.old) runner.old.trace.limit tracks notes) (K.holds out.new)) }
+        OnOk result (Puts (K.holds out.old) (end_tail ending ++ count_tails command.now
+        (report_of runner.old) runner.old.trace.limit tracks notes) (K.holds out.new)) }
     ensures cause { HasCause (K.faults out.old) (K.faults out.new) result }
 {
     match put_ending(ending, out) {
@@ -159,7 +157,7 @@ fn put_stopped<K: Sink>(
 }
 
 // The tail that names the ending; there is none for a run that came to its end.
-#[tactic(auto, using(gier_front::proofs::Prints::puts_none))]
+#[tactic(auto, using(gier_io::proofs::Prints::puts_none))]
 fn put_ending<K: Sink>(ending: Ending, out: &mut K) -> Result<(), Failed>
     ensures put { OnOk result (Puts (K.holds out.old) (end_tail ending) (K.holds out.new)) }
     ensures cause { HasCause (K.faults out.old) (K.faults out.new) result }
@@ -172,7 +170,7 @@ fn put_ending<K: Sink>(ending: Ending, out: &mut K) -> Result<(), Failed>
 }
 
 // The tails that are asked for of every run that no device stopped.
-#[tactic(auto, using(gier_front::proofs::Prints::puts_more))]
+#[tactic(auto, using(gier_io::proofs::Prints::puts_more))]
 fn put_counts<K: Sink>(command: &Command, runner: &mut Runner, out: &mut K) -> Result<(), Failed>
     requires within { IsWithin command.now.settings }
     requires noted { command.now.best ≡ true → AreTracks runner.old.trace }
@@ -180,7 +178,8 @@ fn put_counts<K: Sink>(command: &Command, runner: &mut Runner, out: &mut K) -> R
     ensures traces { runner.new.trace.tracks ≡ runner.old.trace.tracks }
     ensures frames { runner.new.frames ≡ runner.old.frames }
     ensures put { (tracks notes : List ℕ) → Counts runner.old.recent tracks → HasNoted runner.old.trace notes →
-        OnOk result (Puts (K.holds out.old) (count_tails command.now (report_of runner.old) runner.old.trace.limit tracks notes) (K.holds out.new)) }
+        OnOk result (Puts (K.holds out.old) (count_tails command.now
+        (report_of runner.old) runner.old.trace.limit tracks notes) (K.holds out.new)) }
     ensures cause { HasCause (K.faults out.old) (K.faults out.new) result }
 {
     match put_taken(command, runner, out) {
@@ -190,7 +189,7 @@ fn put_counts<K: Sink>(command: &Command, runner: &mut Runner, out: &mut K) -> R
 }
 
 // The report, where it is asked for.
-#[tactic(auto, using(gier_front::proofs::Prints::puts_none))]
+#[tactic(auto, using(gier_io::proofs::Prints::puts_none))]
 fn put_taken<K: Sink>(command: &Command, runner: &Runner, out: &mut K) -> Result<(), Failed>
     ensures put { OnOk result (Puts (K.holds out.old) (taken_tail command.now.report (report_of runner.now)) (K.holds out.new)) }
     ensures cause { HasCause (K.faults out.old) (K.faults out.new) result }
@@ -203,7 +202,7 @@ fn put_taken<K: Sink>(command: &Command, runner: &Runner, out: &mut K) -> Result
 }
 
 // What the references of the run cost with other numbers of places, and by the cheapest plan.
-#[tactic(auto, using(gier_front::proofs::Prints::puts_more))]
+#[tactic(auto, using(gier_io::proofs::Prints::puts_more))]
 fn put_costs<K: Sink>(command: &Command, runner: &mut Runner, out: &mut K) -> Result<(), Failed>
     requires within { IsWithin command.now.settings }
     requires noted { command.now.best ≡ true → AreTracks runner.old.trace }
@@ -221,7 +220,7 @@ fn put_costs<K: Sink>(command: &Command, runner: &mut Runner, out: &mut K) -> Re
 }
 
 // The table of misses, where it is asked for.
-#[tactic(auto, using(gier_front::proofs::Prints::puts_none))]
+#[tactic(auto, using(gier_io::proofs::Prints::puts_none))]
 fn put_misses<K: Sink>(command: &Command, runner: &Runner, out: &mut K) -> Result<(), Failed>
     ensures put { (tracks : List ℕ) → Counts runner.now.recent tracks →
         OnOk result (Puts (K.holds out.old) (misses_tail command.now.table tracks) (K.holds out.new)) }
@@ -245,7 +244,7 @@ fn misses(runner: &Runner) -> [u128; MOST_PLACES]
 }
 
 // The cheapest plan for the references of the run, where it is asked for.
-#[tactic(auto, using(gier_front::proofs::Prints::puts_none))]
+#[tactic(auto, using(gier_io::proofs::Prints::puts_none))]
 fn put_cheapest<K: Sink>(command: &Command, runner: &mut Runner, out: &mut K) -> Result<(), Failed>
     requires within { IsWithin command.now.settings }
     requires noted { command.now.best ≡ true → AreTracks runner.old.trace }
@@ -253,7 +252,8 @@ fn put_cheapest<K: Sink>(command: &Command, runner: &mut Runner, out: &mut K) ->
     ensures traces { runner.new.trace.tracks ≡ runner.old.trace.tracks }
     ensures frames { runner.new.frames ≡ runner.old.frames }
     ensures put { (notes : List ℕ) → HasNoted runner.old.trace notes →
-        OnOk result (Puts (K.holds out.old) (best_plan_tail command.now.best runner.old.trace.limit notes command.now.settings.places) (K.holds out.new)) }
+        OnOk result (Puts (K.holds out.old) (best_plan_tail command.now.best runner.old.trace.limit notes
+        command.now.settings.places) (K.holds out.new)) }
     ensures cause { HasCause (K.faults out.old) (K.faults out.new) result }
 {
     if !command.best {

@@ -1,14 +1,18 @@
 // The work on one tape, for which all room was taken before: the program is checked, and run where that is asked for.
-ghost use Rattle.std.specs.Prelude.{◌≡◌, ◌≢◌, ◌≤◌, ◌<◌, [], OnOk, IfOk, IsErr, IsErrOf, length, true, false, is_some, ℕ, List, Option, Some};
+ghost use Rattle.std.specs.Prelude.{◌≡◌, ◌≢◌, ◌≤◌, ◌<◌, [], OnOk, IfOk, IsErr, IsErrOf, length, true, false, is_some, ℕ, List};
+ghost use Rattle.std.specs.Prelude.{Option, Some};
 ghost use Rattle.gier_word.specs.Cause.{HasRisen};
+ghost use Rattle.gier_drum.specs.View.{drum_view, KeepsDrum, StaysTold};
 ghost use Rattle.gier_text.specs.TablesModel.{tables_model};
 ghost use Rattle.gier_front.specs.declared.stop.FrontStop.TheVariants.{Errors as HasErrors, Read, Drum as DrumStop};
-ghost use Rattle.gier_areas.specs.Areas.{longest, all_tracks, object_tracks};
+ghost use Rattle.gier_limits.specs.Areas.{longest, all_tracks, object_tracks};
 ghost use Rattle.gier_front.specs.Fronted.{IsFronted, HasTextSix};
 ghost use Rattle.gier_front.specs.Stops.{NotSpoilt};
-ghost use Rattle.gier_job.specs.Command.{IsFew, IsWithin};
-ghost use Rattle.gier_job.specs.Checked.{Prints, PrintsErrors, TakesFor, FoundFor, IsNotSpoilt};
-ghost use Rattle.gier_job.specs.RunAnswer.{IsRunEnd, HasRun};
+ghost use Rattle.gier_job.specs.Answer.{Answers};
+ghost use Rattle.gier_job.specs.Command.{IsFew, IsPermitted};
+ghost use Rattle.gier_job.specs.Checked.{Prints, TakesFor, FoundFor, IsNotSpoilt};
+ghost use Rattle.gier_job.specs.Devices.{devices, NamesFailed};
+ghost use Rattle.gier_job.specs.RunAnswer.{IsRunEnd};
 ghost use Rattle.gier_job.specs.Reply.{text_for};
 ghost use Rattle.gier_job.specs.Early.{AnswersEarly};
 ghost use Rattle.gier_front.specs.Early.{early_faults, FindsEarly};
@@ -38,8 +42,7 @@ pub fn work<S: Source, K: Sink, D: Drum>(
     tables: &mut Tables,
     runner: &mut Runner,
 ) -> Status
-    requires few { IsFew command.now.sample }
-    requires within { IsWithin command.now.settings }
+    requires permitted { IsPermitted command.now }
     requires limit { (tables_model tables.old).limit ≡ longest }
     requires no_faults { (tables_model tables.old).faults ≡ [] }
     requires room { all_tracks longest ≤ D.room drum.old }
@@ -54,36 +57,17 @@ pub fn work<S: Source, K: Sink, D: Drum>(
     ensures settings { runner.new.settings ≡ runner.old.settings }
     ensures traces { runner.new.trace.tracks ≡ runner.old.trace.tracks }
 
-    // `check` prints the errors of the program and nothing else, and just the program text is taken.
-    ensures checks { command.now.check ≡ true → Prints result (K.holds out.old) (K.holds out.new) }
-    ensures checked { command.now.check ≡ true → TakesFor command.now.sample result (S.left tape.old) (S.left tape.new) }
-    ensures sound { command.now.check ≡ true → is_some (D.tracks drum.old) ≡ true → IsNotSpoilt result }
-
-    // `run` prints the errors too, and nothing is run then.
-    ensures errors { result ≡ Errors → PrintsErrors (K.holds out.old) (K.holds out.new) }
-    ensures refused { result ≡ Errors → TakesFor command.now.sample Errors (S.left tape.old) (S.left tape.new) }
-
-    // Where the devices tell what they hold, errors of bytes, words, strings, numbers and structure are printed exactly, and so is
-    // that a program is too long; and with such errors no program ends well or is run.
-    ensures early { (bytes : List ℕ) → S.left tape.old ≡ Some bytes → is_some (D.tracks drum.old) ≡ true
-        → AnswersEarly result (errors (text_for command.now.sample bytes)) (K.holds out.old) (K.holds out.new) }
-
-    // Where the devices tell what they hold, a run that no device stopped prints what the flat run of its object prints, and
-    // then the tails. Which lines a post-mortem names isn't said.
-    ensures runs { (tracks : List (List ℕ)) (all : List ℕ) → command.now.check ≡ false → D.tracks drum.new ≡ Some tracks
-        → S.left tape.old ≡ Some all
-        → IsRunEnd result → HasRun tracks command.now runner.old.trace.limit (S.left tape.old) result (K.holds out.old)
-        (K.holds out.new) (D.journal drum.new) }
+    // What the command asks for is answered.
+    ensures answers { Answers command.now runner.old.trace.limit result
+        (devices S.left S.faults K.holds K.faults D.room D.tracks D.journal D.faults tape.old out.old drum.old)
+        (devices S.left S.faults K.holds K.faults D.room D.tracks D.journal D.faults tape.new out.new drum.new) }
 
     // A device is named only where it failed in this call.
-    ensures tape_fault { result ≡ Tape → HasRisen (S.faults tape.old) (S.faults tape.new) }
-    ensures printer_fault { result ≡ Printer → HasRisen (K.faults out.old) (K.faults out.new) }
-    ensures drum_fault { result ≡ DrumStatus → HasRisen (D.faults drum.old) (D.faults drum.new) }
-    ensures tape_later { S.faults tape.old ≤ S.faults tape.new }
-    ensures printer_later { K.faults out.old ≤ K.faults out.new }
-    ensures drum_later { D.faults drum.old ≤ D.faults drum.new }
+    ensures faults { NamesFailed result
+        (devices S.left S.faults K.holds K.faults D.room D.tracks D.journal D.faults tape.old out.old drum.old)
+        (devices S.left S.faults K.holds K.faults D.room D.tracks D.journal D.faults tape.new out.new drum.new) }
 {
-    let found = compile(command, tape, drum, tables);
+    let found = bring_to_text6(command, tape, drum, tables);
     if command.check {
         return told(found, tables, out);
     }
@@ -94,7 +78,7 @@ pub fn work<S: Source, K: Sink, D: Drum>(
 }
 
 // Brings the sample that the command names, or else the program on the tape, to text 6.
-fn compile<S: Source, D: Drum>(
+fn bring_to_text6<S: Source, D: Drum>(
     command: &Command,
     tape: &mut S,
     drum: &mut D,
@@ -107,15 +91,14 @@ fn compile<S: Source, D: Drum>(
     ensures fronted { IfOk result IsFronted }
     ensures no_faults { OnOk result ((tables_model tables.new).faults ≡ []) }
     ensures limit { (tables_model tables.new).limit ≡ longest }
-    ensures room { D.room drum.new ≡ D.room drum.old }
+    ensures keeps { KeepsDrum StaysTold (drum_view D.room D.tracks D.journal D.faults drum.old)
+        (drum_view D.room D.tracks D.journal D.faults drum.new) }
     ensures takes { FoundFor command.now.sample result (S.left tape.old) (S.left tape.new) }
     ensures tape_later { S.faults tape.old ≤ S.faults tape.new }
-    ensures drum_later { D.faults drum.old ≤ D.faults drum.new }
     ensures errors { IsErrOf result HasErrors → 0 < length (tables_model tables.new).faults }
     ensures read { IsErrOf result Read → HasRisen (S.faults tape.old) (S.faults tape.new) }
     ensures drum { IsErrOf result DrumStop → HasRisen (D.faults drum.old) (D.faults drum.new) }
     ensures sound { is_some (D.tracks drum.old) ≡ true → NotSpoilt result }
-    ensures told { is_some (D.tracks drum.new) ≡ is_some (D.tracks drum.old) }
     ensures text6 { is_some (D.tracks drum.old) ≡ true → IfOk result (HasTextSix (D.tracks drum.new)) }
     ensures counted { (bytes : List ℕ) → S.left tape.old ≡ Some bytes
         → IfOk result (λ fronted. fronted.bytes ≡ length (text_for command.now.sample bytes)) }

@@ -1,8 +1,13 @@
--- Which actuals fit which formals (Report 4.7.5), and how many a call has to have. At a call of a formal procedure the formals aren't
--- known: there only what can't be an actual at all doesn't fit, and all else is found out when the call is executed.
+-- Which actuals fit which formals (Report 4.7.5), and how many a call has to have. At a call of a formal procedure the formals
+-- aren't known: there only what can't be an actual at all doesn't fit, and all else is found out when the call is executed.
 use Rattle.std.specs.Prelude.{◌==◌, ℕ, Bool, true, false, not, nat_le, List, [], ◌∷◌, length, Option, None, Some}
 use Rattle.gier_tree.specs.declared.kind.Kind.{Kind}
-use Rattle.gier_tree.specs.declared.kind.Kind.TheVariants.{IntegerArray, BooleanArray, Switch, Procedure, IntegerProcedure, BooleanProcedure, IntegerValue, BooleanValue, IntegerFormal, BooleanFormal, IntegerArrayFormal, BooleanArrayFormal, LabelFormal, SwitchFormal, StringFormal, ProcedureFormal, IntegerProcedureFormal, BooleanProcedureFormal, OutInteger, OutText, OutCr, OutChar, InInteger, InChar, Abs, Sign}
+use Rattle.gier_tree.specs.declared.kind.Kind.TheVariants.{IntegerArray, BooleanArray, Switch, Procedure, IntegerProcedure}
+use Rattle.gier_tree.specs.declared.kind.Kind.TheVariants.{BooleanProcedure, IntegerValue, BooleanValue, IntegerFormal}
+use Rattle.gier_tree.specs.declared.kind.Kind.TheVariants.{BooleanFormal, IntegerArrayFormal, BooleanArrayFormal, LabelFormal}
+use Rattle.gier_tree.specs.declared.kind.Kind.TheVariants.{SwitchFormal, StringFormal, ProcedureFormal, IntegerProcedureFormal}
+use Rattle.gier_tree.specs.declared.kind.Kind.TheVariants.{BooleanProcedureFormal, OutInteger, OutText, OutCr, OutChar, InInteger}
+use Rattle.gier_tree.specs.declared.kind.Kind.TheVariants.{InChar, Abs, Sign}
 use Rattle.gier_tree.specs.Described.{Described, Scopes}
 use Rattle.gier_tree.specs.Trees.{Name, Expr, Actual, OneExpr, AString}
 use Rattle.gier_tree.specs.Written.{name_alone}

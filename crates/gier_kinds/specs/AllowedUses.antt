@@ -2,7 +2,12 @@
 -- function has one way of use; what it doesn't name is the fault of a wrong use. Where the use has a type, a wrong one has none.
 use Rattle.std.specs.Prelude.{ℕ, zero, suc, Bool, true, false}
 use Rattle.gier_tree.specs.declared.kind.Kind.{Kind}
-use Rattle.gier_tree.specs.declared.kind.Kind.TheVariants.{IntegerVariable, BooleanVariable, IntegerArray, BooleanArray, Label, Switch, Procedure, IntegerProcedure, BooleanProcedure, IntegerValue, BooleanValue, IntegerFormal, BooleanFormal, IntegerArrayFormal, BooleanArrayFormal, LabelFormal, SwitchFormal, ProcedureFormal, IntegerProcedureFormal, BooleanProcedureFormal, OutInteger, OutText, OutCr, OutChar, InInteger, InChar, Abs, Sign}
+use Rattle.gier_tree.specs.declared.kind.Kind.TheVariants.{IntegerVariable, BooleanVariable, IntegerArray, BooleanArray, Label}
+use Rattle.gier_tree.specs.declared.kind.Kind.TheVariants.{Switch, Procedure, IntegerProcedure, BooleanProcedure, IntegerValue}
+use Rattle.gier_tree.specs.declared.kind.Kind.TheVariants.{BooleanValue, IntegerFormal, BooleanFormal, IntegerArrayFormal}
+use Rattle.gier_tree.specs.declared.kind.Kind.TheVariants.{BooleanArrayFormal, LabelFormal, SwitchFormal, ProcedureFormal}
+use Rattle.gier_tree.specs.declared.kind.Kind.TheVariants.{IntegerProcedureFormal, BooleanProcedureFormal, OutInteger, OutText}
+use Rattle.gier_tree.specs.declared.kind.Kind.TheVariants.{OutCr, OutChar, InInteger, InChar, Abs, Sign}
 use Rattle.gier_kinds.specs.Types.{ExprType, OfInteger, OfBoolean, OfLabel, Unknown}
 
 -- of a procedure with this number of formals, where it has none, and where it has some

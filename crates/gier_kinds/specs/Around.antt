@@ -25,7 +25,10 @@ within_named p within x = x == p.number || within x
 -- unless a formal or a label has that identifier
 abbrev pub in_procedure : Heading → Statement → Around → Around
 in_procedure h s a =
-    record { scopes = procedure_scopes h s a.scopes; within = hide (procedure_entries h s) (within_named (name_of_heading h) a.within) }
+    record {
+      scopes = procedure_scopes h s a.scopes;
+      within = hide (procedure_entries h s) (within_named (name_of_heading h) a.within);
+    }
 
 abbrev pub in_turn : Statement → Around → Around
 in_turn s a = record { scopes = turn_scopes s a.scopes; within = hide (turn_entries s) a.within }

@@ -1,9 +1,12 @@
 -- How errors are printed: each on a line of its own, with the line of the program where it stands; too long a program has none.
 use Rattle.std.specs.Prelude.{◌++◌, ℕ, List, [], ◌∷◌, codes, decimal}
 use Rattle.gier_symbol.specs.Listing.{FaultAt, SymbolFault, WrongByte, WrongWord, OpenString, LargeNumber}
-use Rattle.gier_scope.specs.Faults.{ScopeFault, DeclaredTwice, NotDeclared, LocalInBound, NotFormal, SpecifiedTwice, NotSpecified, TooDeep}
+use Rattle.gier_scope.specs.Faults.{ScopeFault, DeclaredTwice, NotDeclared, LocalInBound, NotFormal, SpecifiedTwice, NotSpecified}
+use Rattle.gier_scope.specs.Faults.{TooDeep}
 use Rattle.gier_kinds.specs.Errors.{Fault, OfSymbols, OfStructure, OfScopes, OfTypes, Faults, Errors, TooLong, Listed}
-use Rattle.gier_kinds.specs.Faults.{TypeFault, ListTooLong, WrongValue, WrongUse, WrongSubscripts, WrongCount, WrongActual, WrongBound, WrongElement, WrongCondition, WrongBranches, WrongTarget, WrongAssignment, WrongOperand}
+use Rattle.gier_kinds.specs.Faults.{TypeFault, ListTooLong, WrongValue, WrongUse, WrongSubscripts, WrongCount, WrongActual}
+use Rattle.gier_kinds.specs.Faults.{WrongBound, WrongElement, WrongCondition, WrongBranches, WrongTarget, WrongAssignment}
+use Rattle.gier_kinds.specs.Faults.{WrongOperand}
 
 abbrev pub symbol_text : SymbolFault → List ℕ
 symbol_text WrongByte = codes "character"

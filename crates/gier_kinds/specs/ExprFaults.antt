@@ -5,11 +5,18 @@ use Rattle.gier_tree.specs.declared.kind.Kind.TheVariants.{IntegerArray, Boolean
 use Rattle.gier_tree.specs.Described.{Described, Scopes}
 use Rattle.gier_tree.specs.Need.{count_exprs, count_actuals}
 use Rattle.gier_tree.specs.Written.{name_alone}
-use Rattle.gier_tree.specs.Trees.{Name, Expr, OneSimple, IfExpr, Simple, OneImplication, Equivalent, Implication, OneDisjunction, Implies, Disjunction, OneConjunction, Either, Conjunction, OneNegation, Both, Negation, OneRelation, Negated, Relation, OneArithmetic, Compared, Arithmetic, OneTerm, Signed, Summed, Term, OneFactor, Multiplied, Factor, OnePrimary, Raised, Primary, Numeral, Logical, Bracketed, OneCall, OneElement, Call, Alone, WithActuals, Element, Subscripted, Actual, OneExpr, AString, Actuals, NoActuals, MoreActuals, Exprs, NoExprs, MoreExprs}
+use Rattle.gier_tree.specs.Trees.{Name, Expr, OneSimple, IfExpr, Simple, OneImplication, Equivalent, Implication, OneDisjunction}
+use Rattle.gier_tree.specs.Trees.{Implies, Disjunction, OneConjunction, Either, Conjunction, OneNegation, Both, Negation}
+use Rattle.gier_tree.specs.Trees.{OneRelation, Negated, Relation, OneArithmetic, Compared, Arithmetic, OneTerm, Signed, Summed}
+use Rattle.gier_tree.specs.Trees.{Term, OneFactor, Multiplied, Factor, OnePrimary, Raised, Primary, Numeral, Logical, Bracketed}
+use Rattle.gier_tree.specs.Trees.{OneCall, OneElement, Call, Alone, WithActuals, Element, Subscripted, Actual, OneExpr, AString}
+use Rattle.gier_tree.specs.Trees.{Actuals, NoActuals, MoreActuals, Exprs, NoExprs, MoreExprs}
 use Rattle.gier_kinds.specs.Actuals.{Wanted, wanted_by, wanted_behind, known_formals, is_other_count, actual_fits}
 use Rattle.gier_kinds.specs.AllowedUses.{alone_type, called_type, element_type, is_statement, is_called_statement}
-use Rattle.gier_kinds.specs.ExprTypes.{type_expr, type_simple, type_implication, type_disjunction, type_conjunction, type_negation, type_relation, type_arithmetic, type_term, type_factor, type_primary}
-use Rattle.gier_kinds.specs.Faults.{TypeFault, ListTooLong, WrongUse, WrongSubscripts, WrongCount, WrongActual, WrongCondition, WrongBranches, WrongOperand, TypeFaults, falls, on_symbol}
+use Rattle.gier_kinds.specs.ExprTypes.{type_expr, type_simple, type_implication, type_disjunction, type_conjunction}
+use Rattle.gier_kinds.specs.ExprTypes.{type_negation, type_relation, type_arithmetic, type_term, type_factor, type_primary}
+use Rattle.gier_kinds.specs.Faults.{TypeFault, ListTooLong, WrongUse, WrongSubscripts, WrongCount, WrongActual, WrongCondition}
+use Rattle.gier_kinds.specs.Faults.{WrongBranches, WrongOperand, TypeFaults, falls, on_symbol}
 use Rattle.gier_kinds.specs.Types.{ExprType, OfInteger, OfBoolean, agree, is_known}
 
 -- lists go up to these lengths; the comma before what is beyond has a fault
@@ -88,12 +95,14 @@ abbrev mutual
   pub faults_implication : Scopes → Implication → TypeFaults
   faults_implication at (OneDisjunction d) = faults_disjunction at d
   faults_implication at (Implies i l d) =
-      faults_implication at i ++ operands_fault OfBoolean (type_implication at i) (type_disjunction at d) l ++ faults_disjunction at d
+      faults_implication at i ++ operands_fault OfBoolean (type_implication at i) (type_disjunction at d) l
+      ++ faults_disjunction at d
 
   pub faults_disjunction : Scopes → Disjunction → TypeFaults
   faults_disjunction at (OneConjunction c) = faults_conjunction at c
   faults_disjunction at (Either d l c) =
-      faults_disjunction at d ++ operands_fault OfBoolean (type_disjunction at d) (type_conjunction at c) l ++ faults_conjunction at c
+      faults_disjunction at d ++ operands_fault OfBoolean (type_disjunction at d) (type_conjunction at c) l
+      ++ faults_conjunction at c
 
   pub faults_conjunction : Scopes → Conjunction → TypeFaults
   faults_conjunction at (OneNegation n) = faults_negation at n
@@ -139,7 +148,8 @@ abbrev mutual
       let d = at x.number in
       let wanted = wanted_of place d in
       use_fault (may_be_called place d) x
-      ++ on_symbol l (falls (is_other_count (known_formals d) (suc (count_actuals more))) WrongCount ++ actual_fault (actual_fits at wanted a))
+      ++ on_symbol l (falls (is_other_count (known_formals d) (suc (count_actuals more))) WrongCount
+      ++ actual_fault (actual_fits at wanted a))
       ++ faults_actual at a ++ faults_actuals at (wanted_behind wanted) 1 more
 
   pub faults_actual : Scopes → Actual → TypeFaults
@@ -158,7 +168,8 @@ abbrev mutual
   faults_element allowed at (Subscripted x l e es m) =
       let d = at x.number in
       use_fault (is_known (allowed d.kind)) x
-      ++ on_symbol l (falls (is_other_number d.kind d.count (suc (count_exprs es))) WrongSubscripts ++ subscript_fault (type_expr at e))
+      ++ on_symbol l (falls (is_other_number d.kind d.count (suc (count_exprs es))) WrongSubscripts
+      ++ subscript_fault (type_expr at e))
       ++ faults_expr at e ++ faults_subscripts at 1 es
 
   -- behind so many subscripts

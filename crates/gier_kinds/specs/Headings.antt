@@ -31,7 +31,8 @@ is_value kind = false
 
 -- a place in the value list
 abbrev pub value_fault : Heading → Name → TypeFaults
-value_fault h x = on_symbol x.line (falls (declares (scope_of (formals_of h)) x.number && not (is_value (kind_in h x.number))) WrongValue)
+value_fault h x =
+    on_symbol x.line (falls (declares (scope_of (formals_of h)) x.number && not (is_value (kind_in h x.number))) WrongValue)
 
 abbrev pub faults_heading : Heading → TypeFaults
 faults_heading h = faults_formals (formal_list h) ++ flat_map (value_fault h) (value_places h)

@@ -1,7 +1,8 @@
 -- Programs with faults of types in declarations, statements and operators, and without, each told by its bytes.
 -- The faults are those that an independent model lists.
 use Rattle.std.specs.Prelude.{◌≡◌, ◌++◌, ℕ, List, [], ◌∷◌, codes, Some}
-use Rattle.gier_kinds.specs.Faults.{ListTooLong, WrongValue, WrongUse, WrongSubscripts, WrongCount, WrongActual, WrongBound, WrongElement, WrongCondition, WrongBranches, WrongTarget, WrongAssignment, WrongOperand}
+use Rattle.gier_kinds.specs.Faults.{ListTooLong, WrongValue, WrongUse, WrongSubscripts, WrongCount, WrongActual, WrongBound}
+use Rattle.gier_kinds.specs.Faults.{WrongElement, WrongCondition, WrongBranches, WrongTarget, WrongAssignment, WrongOperand}
 use Rattle.gier_kinds.specs.UseExamples.{fault, faults_in}
 
 -- bounds are integer
@@ -280,7 +281,8 @@ pub record AreTyped : Type 0 where
       fault WrongValue 2 ∷ fault WrongValue 3 ∷ fault WrongValue 3 ∷ fault WrongValue 4 ∷ [])
   pub long_bounds_told : faults_in long_bounds ≡ Some (fault ListTooLong 5 ∷ [])
   pub long_bounds_twice_told : faults_in long_bounds_twice ≡ Some (fault ListTooLong 5 ∷ fault WrongBound 5 ∷ [])
-  pub long_subscripts_told : faults_in long_subscripts ≡ Some (fault ListTooLong 3 ∷ fault ListTooLong 5 ∷ fault WrongSubscripts 6 ∷ [])
+  pub long_subscripts_told : faults_in long_subscripts
+      ≡ Some (fault ListTooLong 3 ∷ fault ListTooLong 5 ∷ fault WrongSubscripts 6 ∷ [])
   pub own_faults_told : faults_in own_faults ≡ Some (
       fault WrongAssignment 1 ∷ fault WrongSubscripts 2 ∷ fault WrongAssignment 2 ∷ fault WrongSubscripts 2
       ∷ fault WrongAssignment 4 ∷ [])

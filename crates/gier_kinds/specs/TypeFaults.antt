@@ -1,12 +1,19 @@
--- The faults of types of a hoisted program, in the order of its symbols (Report 4, 5). Each part adds those of its own symbols to those
--- of its parts; an own declaration has none, since its quantities are declared in the block around the program.
+-- The faults of types of a hoisted program, in the order of its symbols (Report 4, 5). Each part adds those of its own symbols
+-- to those of its parts; an own declaration has none, since its quantities are declared in the block around the program.
 use Rattle.std.specs.Prelude.{◌++◌, ℕ, suc, not, List, [], ◌∷◌}
 use Rattle.std.specs.List.{flat_map}
 use Rattle.gier_tree.specs.Described.{Scopes}
-use Rattle.gier_tree.specs.Trees.{Expr, Exprs, NoExprs, MoreExprs, Subscripted, BoundPair, MkPair, NextPair, Segment, MkSegment, LeftSide, OneName, LeftElement, LeftPart, Turns, OneValue, StepUntil, WhileTrue, Declaration, DeclareType, DeclareOwn, DeclareArrays, DeclareOwnArrays, DeclareSwitch, DeclareProcedure, Declarations, NoDeclarations, MoreDeclarations, Group, MkBlock, MkCompound, Statements, NoStatements, MoreStatements, Statement, OneUnconditional, OneConditional, OneLoop, Unconditional, MkUnconditional, Basic, OneGroup, Assign, Jump, CallStatement, Dummy, Conditional, IfThen, IfElse, IfLoop, Loop, MkLoop, Program, MkProgram}
+use Rattle.gier_tree.specs.Trees.{Expr, Exprs, NoExprs, MoreExprs, Subscripted, BoundPair, MkPair, NextPair, Segment, MkSegment}
+use Rattle.gier_tree.specs.Trees.{LeftSide, OneName, LeftElement, LeftPart, Turns, OneValue, StepUntil, WhileTrue, Declaration}
+use Rattle.gier_tree.specs.Trees.{DeclareType, DeclareOwn, DeclareArrays, DeclareOwnArrays, DeclareSwitch, DeclareProcedure}
+use Rattle.gier_tree.specs.Trees.{Declarations, NoDeclarations, MoreDeclarations, Group, MkBlock, MkCompound, Statements}
+use Rattle.gier_tree.specs.Trees.{NoStatements, MoreStatements, Statement, OneUnconditional, OneConditional, OneLoop}
+use Rattle.gier_tree.specs.Trees.{Unconditional, MkUnconditional, Basic, OneGroup, Assign, Jump, CallStatement, Dummy}
+use Rattle.gier_tree.specs.Trees.{Conditional, IfThen, IfElse, IfLoop, Loop, MkLoop, Program, MkProgram}
 use Rattle.gier_kinds.specs.AllowedUses.{array_type, left_type, is_controllable}
 use Rattle.gier_kinds.specs.Around.{Around, in_block, in_procedure, in_turn, in_program}
-use Rattle.gier_kinds.specs.ExprFaults.{AsStatement, most_subscripts, too_long, use_fault, condition_fault, faults_expr, faults_call, faults_element}
+use Rattle.gier_kinds.specs.ExprFaults.{AsStatement, most_subscripts, too_long, use_fault, condition_fault, faults_expr}
+use Rattle.gier_kinds.specs.ExprFaults.{faults_call, faults_element}
 use Rattle.gier_kinds.specs.ExprTypes.{type_expr}
 use Rattle.gier_kinds.specs.Faults.{TypeFault, WrongBound, WrongElement, WrongTarget, WrongAssignment, TypeFaults, falls, on_symbol}
 use Rattle.gier_kinds.specs.Headings.{faults_heading}
@@ -14,7 +21,8 @@ use Rattle.gier_kinds.specs.Types.{ExprType, OfInteger, OfLabel, agree, is_known
 
 -- a bound and the symbol before it, on which these faults fall too (5.2)
 abbrev pub faults_bound : Scopes → (line : ℕ) → List TypeFault → Expr → TypeFaults
-faults_bound at line kinds e = on_symbol line (kinds ++ falls (not (agree OfInteger (type_expr at e))) WrongBound) ++ faults_expr at e
+faults_bound at line kinds e =
+    on_symbol line (kinds ++ falls (not (agree OfInteger (type_expr at e))) WrongBound) ++ faults_expr at e
 
 abbrev pub faults_pair : Scopes → (line : ℕ) → List TypeFault → BoundPair → TypeFaults
 faults_pair at line kinds (MkPair a l b) = faults_bound at line kinds a ++ faults_bound at l [] b
@@ -22,7 +30,8 @@ faults_pair at line kinds (MkPair a l b) = faults_bound at line kinds a ++ fault
 -- behind so many bound pairs
 abbrev pub faults_pairs : Scopes → (before : ℕ) → List NextPair → TypeFaults
 faults_pairs at before [] = []
-faults_pairs at before (next ∷ ps) = faults_pair at next.comma (too_long most_subscripts before) next.pair ++ faults_pairs at (suc before) ps
+faults_pairs at before (next ∷ ps) =
+    faults_pair at next.comma (too_long most_subscripts before) next.pair ++ faults_pairs at (suc before) ps
 
 abbrev pub faults_segment : Scopes → Segment → TypeFaults
 faults_segment at (MkSegment ns l p ps m) = faults_pair at l [] p ++ faults_pairs at 1 ps
@@ -63,7 +72,8 @@ abbrev mutual
   pub faults_declaration : Around → Declaration → TypeFaults
   faults_declaration a (DeclareType t ns) = []
   faults_declaration a (DeclareOwn l t ns) = []
-  faults_declaration a (DeclareArrays t l s ss) = faults_segment a.scopes s ++ flat_map (λ next. faults_segment a.scopes next.segment) ss
+  faults_declaration a (DeclareArrays t l s ss) =
+      faults_segment a.scopes s ++ flat_map (λ next. faults_segment a.scopes next.segment) ss
   faults_declaration a (DeclareOwnArrays k t l s ss) = []
   faults_declaration a (DeclareSwitch l x m e es) = faults_target a.scopes m e ++ faults_targets a.scopes es
   faults_declaration a (DeclareProcedure h s) = faults_heading h ++ faults_statement (in_procedure h s a) s

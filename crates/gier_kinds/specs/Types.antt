@@ -1,4 +1,5 @@
--- The types of expressions (Report 3), and which of them agree. An unknown type agrees with each, so that one fault raises no other.
+-- The types of expressions (Report 3), and which of them agree. An unknown type agrees with each, so that one fault raises no
+-- other.
 use Rattle.std.specs.Prelude.{Bool, true, false, if◌then◌else◌}
 
 pub data ExprType : Type 0 where

@@ -7,7 +7,8 @@ use Rattle.gier_symbol.specs.Listing.{FaultAt}
 use Rattle.gier_symbol.specs.Reading.{symbols_of}
 use Rattle.gier_tree.specs.Hoist.{hoist}
 use Rattle.gier_tree.specs.Structure.{program_spelled}
-use Rattle.gier_kinds.specs.Faults.{TypeFault, WrongUse, WrongSubscripts, WrongCount, WrongActual, WrongBranches, WrongAssignment, WrongOperand, TypeFaults}
+use Rattle.gier_kinds.specs.Faults.{TypeFault, WrongUse, WrongSubscripts, WrongCount, WrongActual, WrongBranches, WrongAssignment}
+use Rattle.gier_kinds.specs.Faults.{WrongOperand, TypeFaults}
 use Rattle.gier_kinds.specs.TypeFaults.{type_faults}
 
 abbrev pub fault : TypeFault → (line : ℕ) → FaultAt TypeFault

@@ -12,7 +12,8 @@ place_of number = if nat_lt number (2 ^ 23) then number else number - 2 ^ 23
 
 -- the word of a label, and 0 where none was set
 abbrev pub word_of : TablesModel → ℕ → ℕ
-word_of t number = if nat_lt (place_of number) (list_at t.lists 0).count then word_at (list_at t.lists 0) (place_of number) (part_of number) else 0
+word_of t number = if nat_lt (place_of number) (list_at t.lists 0).count
+    then word_at (list_at t.lists 0) (place_of number) (part_of number) else 0
 
 -- the list of words, with room for so many entries
 pub record HasLabels (room : ℕ) (t : TablesModel) : Type 0 where

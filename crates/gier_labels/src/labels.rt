@@ -1,6 +1,6 @@
-// The list of words: labels, switches and procedures of the program are numbered from 0, all other labels from `FIRST_OTHER` up. The
-// words of both kinds stand side by side, so the list grows, and memory is touched, only as far as the greatest number whose word was
-// set.
+// The list of words: labels, switches and procedures of the program are numbered from 0, all other labels from `FIRST_OTHER` up.
+// The words of both kinds stand side by side, so the list grows, and memory is touched, only as far as the greatest number whose
+// word was set.
 ghost use Rattle.std.specs.Prelude.{◌≡◌, ◌≢◌, ◌<◌, ◌≤◌, ◌+◌, ◌-◌, ◌*◌, ◌^◌, ℕ, [], length};
 ghost use Rattle.gier_text.specs.TablesModel.{tables_model};
 ghost use Rattle.gier_text.specs.Lists.{list_at};
@@ -89,7 +89,8 @@ pub fn set_word(tables: &mut Tables, number: u64, word: u64, room: u32)
     ensures labels { HasLabels room (tables_model tables.new) }
     ensures set { place_of number < room → word_of (tables_model tables.new) number ≡ word }
     ensures unset { room ≤ place_of number → word_of (tables_model tables.new) number ≡ word_of (tables_model tables.old) number }
-    ensures rest { (label : ℕ) → label ≢ number → word_of (tables_model tables.new) label ≡ word_of (tables_model tables.old) label }
+    ensures rest { (label : ℕ) → label ≢ number
+        → word_of (tables_model tables.new) label ≡ word_of (tables_model tables.old) label }
     ensures others { KeepsOthers (tables_model tables.old) (tables_model tables.new) }
 {
     let place = place_of(number);

@@ -1,5 +1,6 @@
 -- The data that a program reads: at most so many bytes of a source, and what a call that reads them takes and answers.
-use Rattle.std.specs.Prelude.{◌≡◌, ◌⊎◌, ◌≤◌, ◌+◌, ◌++◌, ℕ, ℤ, Bool, true, List, [], ◌∷◌, length, Option, None, Some, Result, Ok, Err}
+use Rattle.std.specs.Prelude.{◌≡◌, ◌⊎◌, ◌≤◌, ◌+◌, ◌++◌, ℕ, ℤ, Bool, true, List, [], ◌∷◌, length, Option, None, Some, Result, Ok}
+use Rattle.std.specs.Prelude.{Err}
 use Rattle.gier_word.specs.Standard.{Reading}
 use Rattle.gier_word.specs.declared.alarm.Alarm.{Alarm}
 use Rattle.gier_word.specs.declared.refusal.Failed.{Failed}

@@ -1,7 +1,8 @@
 // How an integer is read byte by byte: where the reader stands, and what a byte does there. It calls no source.
 ghost use Rattle.std.specs.Prelude.{◌≡◌, ◌∷◌, ℕ, List, pos, IsTrue, IfSome, IsNone, false};
 ghost use Rattle.gier_word.specs.Operations.{InRange, is_in_range};
-ghost use Rattle.gier_word.specs.Standard.{is_digit, is_skipped, with_digit, integer_read, sign_read, first_digit_read, digits_read};
+ghost use Rattle.gier_word.specs.Standard.{is_digit, is_skipped, with_digit, integer_read, sign_read, first_digit_read};
+ghost use Rattle.gier_word.specs.Standard.{digits_read};
 ghost use Rattle.gier_library.specs.Places.{read_from, read_after, outcome_at_end};
 
 use gier_word::{Alarm, Int40};

@@ -20,7 +20,8 @@ charged_by (suc left) line live s go = go (with_left left s)
 abbrev pub charge : {K T : Type 0} → (line : ℕ) → Live → State K → (State K → Outcome K T) → Outcome K T
 charge line live s go = charged_by s.left line live s go
 
-abbrev pub enters_by : {K T : Type 0} → Entry → Shape → (room line : ℕ) → Live → State K → (Live → State K → Outcome K T) → Outcome K T
+abbrev pub enters_by : {K T : Type 0} → Entry → Shape → (room line : ℕ) → Live → State K → (Live → State K → Outcome K T)
+    → Outcome K T
 enters_by NoStep shape room line live s go = stops NoStepLeft line live s
 enters_by (NoRoom left) shape room line live s go = stops (Alarmed Stack) line live (with_left left s)
 enters_by (Enters left most) shape room line live s go =

@@ -5,7 +5,9 @@ use Rattle.gier_agree.specs.declared.kind.Kind.{Kind}
 use Rattle.gier_agree.specs.declared.kind.Kind.TheVariants as kind
 use Rattle.gier_agree.specs.Kinds.{wanted_by}
 use Rattle.gier_word.specs.declared.alarm.Alarm.TheVariants.{Bounds}
-use Rattle.gier_meaning.specs.Tree.{AsExpression, Alone, AnActual, Name, Identifier, AnEntity, AProcedure, Formal, Statement, Statements, NoStatements, MoreStatements, Declarations, NoDeclarations, Variables, Arrays, Switch, Procedure}
+use Rattle.gier_meaning.specs.Tree.{AsExpression, Alone, AnActual, Name, Identifier, AnEntity, AProcedure, Formal, Statement}
+use Rattle.gier_meaning.specs.Tree.{Statements, NoStatements, MoreStatements, Declarations, NoDeclarations, Variables, Arrays}
+use Rattle.gier_meaning.specs.Tree.{Switch, Procedure}
 use Rattle.gier_meaning.specs.Live.{Live}
 use Rattle.gier_meaning.specs.State.{Pair, ACell, AnArray, Kept, Entity, State, with_entity, given_out}
 use Rattle.gier_meaning.specs.Address.{CellAt, value_at}
@@ -88,7 +90,8 @@ no_actual formal = AnActual AsExpression formal.kind (Alone (Identifier formal.i
 abbrev pub formals_bound : ℕ → List Formal → List Passed → List Binding
 formals_bound n [] passed = []
 formals_bound n (formal ∷ formals) [] = Means formal.identifier (no_actual formal) ∷ formals_bound n formals []
-formals_bound n (formal ∷ formals) (AValue value ∷ passed) = Means formal.identifier (AnEntity n) ∷ formals_bound (suc n) formals passed
+formals_bound n (formal ∷ formals) (AValue value ∷ passed) =
+    Means formal.identifier (AnEntity n) ∷ formals_bound (suc n) formals passed
 formals_bound n (formal ∷ formals) (AName name ∷ passed) = Means formal.identifier name ∷ formals_bound n formals passed
 
 -- those cells are made

@@ -1,9 +1,11 @@
 -- What the store keeps of a procedure and of a switch, and what it says that a name is.
 use Rattle.std.specs.Prelude.{ℕ, List}
 use Rattle.gier_agree.specs.declared.kind.Kind.{Kind}
-use Rattle.gier_meaning.specs.Tree.{Meant, AsExpression, AsVariable, AsLabel, AsFormal, Name, Identifier, AnEntity, AProcedure, AFormalProcedure, AText, AStandard, AnActual, Exprs, Formal, Statement}
+use Rattle.gier_meaning.specs.Tree.{Meant, AsExpression, AsVariable, AsLabel, AsFormal, Name, Identifier, AnEntity, AProcedure}
+use Rattle.gier_meaning.specs.Tree.{AFormalProcedure, AText, AStandard, AnActual, Exprs, Formal, Statement}
 use Rattle.gier_meaning.specs.State.{Entity, Nothing, ACell, AnArray, ALabel, Kept}
-use Rattle.gier_meaning.specs.What.{What, Unknown, IsVariable, IsByName, IsArray, IsLabel, IsSwitch, IsString, IsProcedure, IsFormalProcedure, IsStandard, kinds}
+use Rattle.gier_meaning.specs.What.{What, Unknown, IsVariable, IsByName, IsArray, IsLabel, IsSwitch, IsString, IsProcedure}
+use Rattle.gier_meaning.specs.What.{IsFormalProcedure, IsStandard, kinds}
 
 pub data Body : Type 0 where
   -- its own identifier, which its left parts have; its kind, its formals, its statement

@@ -8,7 +8,8 @@ use Rattle.gier_agree.specs.Kinds.{wanted_by}
 use Rattle.gier_word.specs.declared.alarm.Alarm.TheVariants.{Parameters}
 use Rattle.gier_tree.specs.declared.kind.Kind.{Kind as Standard}
 use Rattle.gier_tree.specs.declared.kind.Kind.TheVariants.{OutText}
-use Rattle.gier_meaning.specs.Tree.{Identifier, AsExpression, AsLabel, Name, AProcedure, AFormalProcedure, AText, AStandard, AnActual, Expr, Alone, Quoted, Exprs, NoExprs, MoreExprs, Formal, Statement}
+use Rattle.gier_meaning.specs.Tree.{Identifier, AsExpression, AsLabel, Name, AProcedure, AFormalProcedure, AText, AStandard}
+use Rattle.gier_meaning.specs.Tree.{AnActual, Expr, Alone, Quoted, Exprs, NoExprs, MoreExprs, Formal, Statement}
 use Rattle.gier_meaning.specs.Live.{InProcedure}
 use Rattle.gier_meaning.specs.State.{Entity, Kept, State}
 use Rattle.gier_meaning.specs.Outcome.{Outcome, Gives, Alarmed, then_do, stops, senseless, either}

@@ -1,7 +1,11 @@
 -- Closing a tree: identifiers that are declared outside it are replaced, as a map says (Report 4.7.3.2 and 4.7.3.3). What an
 -- inner scope declares stays until that scope is entered. An actual that already stands in the tree is closed.
 use Rattle.std.specs.Prelude.{ℕ, List, [], ◌∷◌}
-use Rattle.gier_meaning.specs.Tree.{Name, Identifier, AnEntity, AProcedure, AFormalProcedure, AText, AStandard, AnActual, Expr, Number, Logical, Alone, Subscripted, Called, Bracketed, Prefixed, Joined, IfExpr, Quoted, Exprs, NoExprs, MoreExprs, Element, Once, StepUntil, While, Statement, Labelled, Dummy, Compound, Block, Assign, GoTo, CallOf, If, IfElse, For, Statements, NoStatements, MoreStatements, Declarations, NoDeclarations, Variables, Arrays, Switch, Procedure}
+use Rattle.gier_meaning.specs.Tree.{Name, Identifier, AnEntity, AProcedure, AFormalProcedure, AText, AStandard, AnActual, Expr}
+use Rattle.gier_meaning.specs.Tree.{Number, Logical, Alone, Subscripted, Called, Bracketed, Prefixed, Joined, IfExpr, Quoted}
+use Rattle.gier_meaning.specs.Tree.{Exprs, NoExprs, MoreExprs, Element, Once, StepUntil, While, Statement, Labelled, Dummy}
+use Rattle.gier_meaning.specs.Tree.{Compound, Block, Assign, GoTo, CallOf, If, IfElse, For, Statements, NoStatements}
+use Rattle.gier_meaning.specs.Tree.{MoreStatements, Declarations, NoDeclarations, Variables, Arrays, Switch, Procedure}
 use Rattle.gier_meaning.specs.Scopes.{labels, of_block, identifiers_of, of_procedure}
 use Rattle.gier_meaning.specs.Maps.{Map, map_without, hidden_in_body}
 
@@ -59,7 +63,8 @@ abbrev mutual
   close_in m Dummy = Dummy
   close_in m (Compound ss) = Compound (close_statements m ss)
   close_in m (Block line ds ss) =
-      Block line (close_declarations (map_without (identifiers_of (of_block ds ss)) m) ds) (close_statements (map_without (identifiers_of (of_block ds ss)) m) ss)
+      Block line (close_declarations (map_without (identifiers_of (of_block ds ss)) m) ds)
+      (close_statements (map_without (identifiers_of (of_block ds ss)) m) ss)
   close_in m (Assign lefts e) = Assign (close_lefts m lefts) (close m.used e)
   close_in m (GoTo line e) = GoTo line (close m.used e)
   close_in m (CallOf e) = CallOf (close m.used e)
@@ -81,4 +86,5 @@ abbrev mutual
   close_declarations m (Switch line name elements ds) =
       Switch line (close_name m.used name) (close_all m.used elements) (close_declarations m ds)
   close_declarations m (Procedure line kind own name formals body ds) =
-      Procedure line kind own (close_name m.used name) formals (close_in (hidden_in_body kind own (of_procedure formals body) m) body) (close_declarations m ds)
+      Procedure line kind own (close_name m.used name) formals
+      (close_in (hidden_in_body kind own (of_procedure formals body) m) body) (close_declarations m ds)

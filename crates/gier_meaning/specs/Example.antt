@@ -1,6 +1,9 @@
 -- What an example is: a program, its data, the permitted steps and words, and what is told of its run; and short forms for trees.
 use Rattle.std.specs.Prelude.{◌≡◌, ℕ, List, [], Option, Some}
-use Rattle.gier_tree.specs.Trees.{Name, NextName, Byte, LabelPlace, TypeWord, IntegerType, BooleanType, Expr, Simple, OneSimple, Implication, OneImplication, Disjunction, OneDisjunction, Conjunction, OneConjunction, Negation, OneNegation, Relation, OneRelation, Arithmetic, OneArithmetic, Term, OneTerm, Factor, OneFactor, Numeral, OneCall, Alone, only, Basic, Statement, OneUnconditional, MkUnconditional, Program}
+use Rattle.gier_tree.specs.Trees.{Name, NextName, Byte, LabelPlace, TypeWord, IntegerType, BooleanType, Expr, Simple, OneSimple}
+use Rattle.gier_tree.specs.Trees.{Implication, OneImplication, Disjunction, OneDisjunction, Conjunction, OneConjunction, Negation}
+use Rattle.gier_tree.specs.Trees.{OneNegation, Relation, OneRelation, Arithmetic, OneArithmetic, Term, OneTerm, Factor, OneFactor}
+use Rattle.gier_tree.specs.Trees.{Numeral, OneCall, Alone, only, Basic, Statement, OneUnconditional, MkUnconditional, Program}
 use Rattle.gier_meaning.specs.Live.{Shape, Activation, Stop}
 use Rattle.gier_meaning.specs.Observation.{Ending, Observation}
 

@@ -2,7 +2,8 @@
 -- and actuals are taken strictly from left to right.
 use Rattle.std.specs.Prelude.{ℕ, ℤ, pos, List, [], ◌∷◌}
 use Rattle.gier_agree.specs.declared.kind.Kind.{Kind}
-use Rattle.gier_meaning.specs.Tree.{Name, AProcedure, AFormalProcedure, AStandard, Expr, Number, Logical, Alone, Subscripted, Called, Bracketed, Prefixed, Joined, IfExpr, Quoted, Exprs, NoExprs, MoreExprs}
+use Rattle.gier_meaning.specs.Tree.{Name, AProcedure, AFormalProcedure, AStandard, Expr, Number, Logical, Alone, Subscripted}
+use Rattle.gier_meaning.specs.Tree.{Called, Bracketed, Prefixed, Joined, IfExpr, Quoted, Exprs, NoExprs, MoreExprs}
 use Rattle.gier_meaning.specs.Lines.{line_of}
 use Rattle.gier_meaning.specs.Live.{Live}
 use Rattle.gier_meaning.specs.State.{State}
@@ -39,7 +40,8 @@ module _ (limit : ℕ) where
     value next (Subscripted name line es) live s =
         then_do (values next es live s) (λ subscripts s1.
         then_do (element_of name subscripts line live s1) (λ address s2. Gives (value_at address s2) s2))
-    value next (Called name line es) live s = call limit next name es (λ formals s1. handed next formals es line live s1) line live s
+    value next (Called name line es) live s =
+        call limit next name es (λ formals s1. handed next formals es line live s1) line live s
     value next (Bracketed line e) live s = value next e live s
     value next (Prefixed op line e) live s = then_do (value next e live s) (λ a s1. value_or_alarm (apply_prefix op a) line live s1)
     value next (Joined e op line f) live s =

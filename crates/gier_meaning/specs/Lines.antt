@@ -1,6 +1,7 @@
 -- The line of an expression's first symbol.
 use Rattle.std.specs.Prelude.{ℕ}
-use Rattle.gier_meaning.specs.Tree.{Expr, Number, Logical, Alone, Subscripted, Called, Bracketed, Prefixed, Joined, IfExpr, Quoted, Element, Once, StepUntil, While}
+use Rattle.gier_meaning.specs.Tree.{Expr, Number, Logical, Alone, Subscripted, Called, Bracketed, Prefixed, Joined, IfExpr}
+use Rattle.gier_meaning.specs.Tree.{Quoted, Element, Once, StepUntil, While}
 
 abbrev pub line_of : Expr → ℕ
 line_of (Number value line) = line

@@ -47,7 +47,8 @@ module _ (limit : ℕ) where
       then_do (value limit next e live s1) (λ v s2. go (receives a v s2)))
 
   -- V := V + B
-  abbrev pub advances : Next → Loop → Expr → (line : ℕ) → Live → State Body → (State Body → Outcome Body Finished) → Outcome Body Finished
+  abbrev pub advances : Next → Loop → Expr → (line : ℕ) → Live → State Body → (State Body → Outcome Body Finished)
+      → Outcome Body Finished
   advances next loop b line live s go =
       then_do (address limit next (variable loop) live s) (λ a s1.
       then_do (value limit next (variable loop) live s1) (λ v s2.
@@ -63,7 +64,8 @@ module _ (limit : ℕ) where
       then_do (value limit next b live s3) (λ y s4. value_or_alarm (product_of difference (sign_of y)) line live s4))))
 
   -- a step element from its test on; `exhausted` goes on with the elements behind it
-  abbrev pub steps : Next → Loop → Execute → Expr → Expr → Expr → List Element → Live → State Body → (State Body → Outcome Body Finished) → Outcome Body Finished
+  abbrev pub steps : Next → Loop → Execute → Expr → Expr → Expr → List Element → Live → State Body
+      → (State Body → Outcome Body Finished) → Outcome Body Finished
   steps next loop execute a b c rest live s exhausted =
       then_do (distance next loop b c (line_of a) live s) (λ d s1.
       either (int_lt (pos 0) d) s1 exhausted

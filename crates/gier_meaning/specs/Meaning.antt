@@ -72,7 +72,8 @@ module _ (limit : ℕ) where
   within (suc steps) = entered (within steps)
 
   -- a program takes its room, but charges no step; its labels are those of its scope
-  abbrev pub program_run : Next → (line : ℕ) → Statement → (own : List ℕ) → Option ℕ → (room : ℕ) → State Body → Outcome Body Finished
+  abbrev pub program_run : Next → (line : ℕ) → Statement → (own : List ℕ) → Option ℕ → (room : ℕ) → State Body
+      → Outcome Body Finished
   program_run next line s own None room st = stops (Alarmed Stack) line [] st
   program_run next line s own (Some most) room st =
       closed_body limit next s own (record { shape = InProgram; words = room } ∷ []) (with_most most st)

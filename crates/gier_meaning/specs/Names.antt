@@ -59,7 +59,8 @@ module _ (limit : ℕ) where
   picked_destination next (Some e) line live s = evaluation e line live s (λ live1 s1. next.destination e live1 s1)
 
   abbrev pub switch_destination : Next → Entity Body → List ℤ → (line : ℕ) → Computation Destination
-  switch_destination next (Kept (SwitchList elements)) (i ∷ []) line live s = picked_destination next (switch_element i elements) line live s
+  switch_destination next (Kept (SwitchList elements)) (i ∷ []) line live s =
+      picked_destination next (switch_element i elements) line live s
   switch_destination next _ _ line live s = senseless line live s
 
   abbrev pub designator : Next → Name → List ℤ → (line : ℕ) → Computation Destination

@@ -4,8 +4,11 @@ use Rattle.std.specs.Prelude.{◌&&◌, ℕ, nat_eq, nat_le, Bool, true, false, 
 use Rattle.gier_agree.specs.declared.kind.Kind.{Kind}
 use Rattle.gier_agree.specs.declared.kind.Kind.TheVariants as kind
 use Rattle.gier_agree.specs.Kinds.{number_of, wanted_by}
-use Rattle.gier_meaning.specs.Tree.{Operator, Adds, Multiplies, Raises, Prefix, Signs, Nots, Meant, AsExpression, AsVariable, AsFormal, Name, Expr, Number, Logical, Alone, Subscripted, Called, Bracketed, Prefixed, Joined, IfExpr, Quoted, Exprs, NoExprs, MoreExprs}
-use Rattle.gier_meaning.specs.What.{What, Unknown, IsVariable, IsByName, IsArray, IsLabel, IsSwitch, IsString, IsProcedure, IsFormalProcedure, IsStandard}
+use Rattle.gier_meaning.specs.Tree.{Operator, Adds, Multiplies, Raises, Prefix, Signs, Nots, Meant, AsExpression, AsVariable}
+use Rattle.gier_meaning.specs.Tree.{AsFormal, Name, Expr, Number, Logical, Alone, Subscripted, Called, Bracketed, Prefixed}
+use Rattle.gier_meaning.specs.Tree.{Joined, IfExpr, Quoted, Exprs, NoExprs, MoreExprs}
+use Rattle.gier_meaning.specs.What.{What, Unknown, IsVariable, IsByName, IsArray, IsLabel, IsSwitch, IsString, IsProcedure}
+use Rattle.gier_meaning.specs.What.{IsFormalProcedure, IsStandard}
 
 -- the kind of a function's value
 abbrev pub result_kind : Kind → Kind

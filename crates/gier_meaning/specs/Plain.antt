@@ -6,7 +6,12 @@ use Rattle.gier_agree.specs.declared.kind.Kind.{Kind}
 use Rattle.gier_agree.specs.declared.kind.Kind.TheVariants as kind
 use Rattle.gier_tree.specs.Trees as tree
 use Rattle.gier_tree.specs.Trees.{MkNames, MkPair, MkSegment, IntegerType, BooleanType, ValueType}
-use Rattle.gier_meaning.specs.Tree.{Adds, Multiplies, Raises, Compares, Ands, Ors, Implies, Equals, Signs, Nots, Name, Identifier, Expr, Number, Logical, Alone, Subscripted, Called, Bracketed, Prefixed, Joined, IfExpr, Quoted, Exprs, NoExprs, MoreExprs, Element, Once, StepUntil, While, Formal, Statement, Labelled, Dummy, Compound, Block, Assign, GoTo, CallOf, If, IfElse, For, Statements, NoStatements, MoreStatements, Declarations, NoDeclarations, Variables, Arrays, Switch, Procedure, Whole}
+use Rattle.gier_meaning.specs.Tree.{Adds, Multiplies, Raises, Compares, Ands, Ors, Implies, Equals, Signs, Nots, Name, Identifier}
+use Rattle.gier_meaning.specs.Tree.{Expr, Number, Logical, Alone, Subscripted, Called, Bracketed, Prefixed, Joined, IfExpr}
+use Rattle.gier_meaning.specs.Tree.{Quoted, Exprs, NoExprs, MoreExprs, Element, Once, StepUntil, While, Formal, Statement}
+use Rattle.gier_meaning.specs.Tree.{Labelled, Dummy, Compound, Block, Assign, GoTo, CallOf, If, IfElse, For, Statements}
+use Rattle.gier_meaning.specs.Tree.{NoStatements, MoreStatements, Declarations, NoDeclarations, Variables, Arrays, Switch}
+use Rattle.gier_meaning.specs.Tree.{Procedure, Whole}
 
 abbrev pub name_of : tree.Name → Name
 name_of name = Identifier name.number
@@ -199,14 +204,16 @@ abbrev mutual
   declaration (tree.DeclareOwnArrays own word array first others) rest = rest
   declaration (tree.DeclareSwitch line name becomes e es) rest = Switch line (name_of name) (MoreExprs (expr e) (exprs es)) rest
   declaration (tree.DeclareProcedure (tree.MkHeading type line name fs semicolon listing specifications) body) rest =
-      Procedure (heading_line type line) (procedure_kind type) name.number (name_of name) (formals fs listing specifications) (statement body) rest
+      Procedure (heading_line type line) (procedure_kind type) name.number (name_of name) (formals fs listing specifications)
+      (statement body) rest
 
   pub declarations : tree.Declarations → Declarations
   declarations tree.NoDeclarations = NoDeclarations
   declarations (tree.MoreDeclarations d semicolon rest) = declaration d (declarations rest)
 
   pub group : tree.Group → Statement
-  group (tree.MkBlock line d semicolon ds s ss end) = Block line (declaration d (declarations ds)) (MoreStatements (statement s) (statements ss))
+  group (tree.MkBlock line d semicolon ds s ss end) =
+      Block line (declaration d (declarations ds)) (MoreStatements (statement s) (statements ss))
   group (tree.MkCompound line s ss end) = Compound (MoreStatements (statement s) (statements ss))
 
   pub statements : tree.Statements → Statements

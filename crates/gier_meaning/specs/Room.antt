@@ -3,7 +3,11 @@
 use Rattle.std.specs.Prelude.{ℕ, suc, ◌+◌, ◌*◌, max, List, [], ◌∷◌, length}
 use Rattle.gier_agree.specs.declared.kind.Kind.{Kind}
 use Rattle.gier_agree.specs.declared.kind.Kind.TheVariants as kind
-use Rattle.gier_meaning.specs.Tree.{Name, Expr, Number, Logical, Alone, Subscripted, Called, Bracketed, Prefixed, Joined, IfExpr, Quoted, Exprs, NoExprs, MoreExprs, Element, Once, StepUntil, While, Formal, Statement, Labelled, Dummy, Compound, Block, Assign, GoTo, CallOf, If, IfElse, For, Statements, NoStatements, MoreStatements, Declarations, NoDeclarations, Variables, Arrays, Switch, Procedure}
+use Rattle.gier_meaning.specs.Tree.{Name, Expr, Number, Logical, Alone, Subscripted, Called, Bracketed, Prefixed, Joined, IfExpr}
+use Rattle.gier_meaning.specs.Tree.{Quoted, Exprs, NoExprs, MoreExprs, Element, Once, StepUntil, While, Formal, Statement}
+use Rattle.gier_meaning.specs.Tree.{Labelled, Dummy, Compound, Block, Assign, GoTo, CallOf, If, IfElse, For, Statements}
+use Rattle.gier_meaning.specs.Tree.{NoStatements, MoreStatements, Declarations, NoDeclarations, Variables, Arrays, Switch}
+use Rattle.gier_meaning.specs.Tree.{Procedure}
 use Rattle.gier_meaning.specs.What.{What, IsSwitch, IsProcedure, IsFormalProcedure, in_block, in_procedure, in_controlled}
 
 abbrev pub count : Exprs → ℕ
@@ -118,7 +122,8 @@ program_room what s = 3 + statement_need what s
 
 -- a block's own declarations and a procedure's own formals say what their identifiers are
 abbrev pub block_room : (Name → What) → Declarations → Statements → ℕ
-block_room what ds ss = 3 + declared_words ds + max (bounds_need (in_block ds ss what) ds) (statements_need (in_block ds ss what) ss)
+block_room what ds ss =
+    3 + declared_words ds + max (bounds_need (in_block ds ss what) ds) (statements_need (in_block ds ss what) ss)
 
 abbrev pub procedure_room : (Name → What) → Kind → List Formal → Statement → ℕ
 procedure_room what kind formals body =

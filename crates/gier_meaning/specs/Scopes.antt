@@ -1,6 +1,9 @@
 -- What a block, a procedure and a controlled statement declare (Report 4.1.3 and 5): names of declarations, and labels.
 use Rattle.std.specs.Prelude.{ℕ, List, [], ◌∷◌, ◌++◌}
-use Rattle.gier_meaning.specs.Tree.{Name, Identifier, AnEntity, AProcedure, AFormalProcedure, AText, AStandard, AnActual, Formal, Statement, Labelled, Dummy, Compound, Block, Assign, GoTo, CallOf, If, IfElse, For, Statements, NoStatements, MoreStatements, Declarations, NoDeclarations, Variables, Arrays, Switch, Procedure}
+use Rattle.gier_meaning.specs.Tree.{Name, Identifier, AnEntity, AProcedure, AFormalProcedure, AText, AStandard, AnActual, Formal}
+use Rattle.gier_meaning.specs.Tree.{Statement, Labelled, Dummy, Compound, Block, Assign, GoTo, CallOf, If, IfElse, For}
+use Rattle.gier_meaning.specs.Tree.{Statements, NoStatements, MoreStatements, Declarations, NoDeclarations, Variables, Arrays}
+use Rattle.gier_meaning.specs.Tree.{Switch, Procedure}
 
 -- an identifier in a declaring place, where nothing replaced it yet
 abbrev pub identifier_in : Name → List ℕ

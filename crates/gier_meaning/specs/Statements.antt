@@ -1,7 +1,8 @@
 -- Statements (Report 4), and the rest of a statement from a label on (Report 4.1.3 and 4.3.3). `turn` has the labels of the turns
 -- in which a statement stands.
 use Rattle.std.specs.Prelude.{◌==◌, ◌||◌, ℕ, Bool, false, List}
-use Rattle.gier_meaning.specs.Tree.{Name, AnEntity, Statement, Labelled, Dummy, Compound, Block, Assign, GoTo, CallOf, If, IfElse, For, Statements, NoStatements, MoreStatements, Declarations}
+use Rattle.gier_meaning.specs.Tree.{Name, AnEntity, Statement, Labelled, Dummy, Compound, Block, Assign, GoTo, CallOf, If, IfElse}
+use Rattle.gier_meaning.specs.Tree.{For, Statements, NoStatements, MoreStatements, Declarations}
 use Rattle.gier_meaning.specs.Live.{InBlock}
 use Rattle.gier_meaning.specs.Address.{receive}
 use Rattle.gier_meaning.specs.Outcome.{Gives, Finished, Done, then_do, either}
@@ -9,7 +10,8 @@ use Rattle.gier_meaning.specs.Accounts.{enter}
 use Rattle.gier_meaning.specs.Operators.{is_true}
 use Rattle.gier_meaning.specs.Room.{block_room}
 use Rattle.gier_meaning.specs.Maps.{Binding}
-use Rattle.gier_meaning.specs.TurnLabels.{name_in_turn, in_turn, lefts_in_turn, elements_in_turn, declarations_in_turn, statements_in_turn}
+use Rattle.gier_meaning.specs.TurnLabels.{name_in_turn, in_turn, lefts_in_turn, elements_in_turn, declarations_in_turn}
+use Rattle.gier_meaning.specs.TurnLabels.{statements_in_turn}
 use Rattle.gier_meaning.specs.Computation.{Computation}
 use Rattle.gier_meaning.specs.Destinations.{goes_to}
 use Rattle.gier_meaning.specs.Tasks.{Next}

@@ -3,7 +3,8 @@ use Rattle.std.specs.Prelude.{◌==◌, ℕ, List, [], ◌∷◌, if◌then◌el
 use Rattle.gier_agree.specs.declared.kind.Kind.{Kind}
 use Rattle.gier_agree.specs.declared.kind.Kind.TheVariants as kind
 use Rattle.gier_tree.specs.declared.kind.Kind.{Kind as Standard}
-use Rattle.gier_meaning.specs.Tree.{Name, Identifier, AnEntity, AProcedure, AFormalProcedure, AText, AStandard, AnActual, Formal, Statement, Statements, Declarations, NoDeclarations, Variables, Arrays, Switch, Procedure}
+use Rattle.gier_meaning.specs.Tree.{Name, Identifier, AnEntity, AProcedure, AFormalProcedure, AText, AStandard, AnActual, Formal}
+use Rattle.gier_meaning.specs.Tree.{Statement, Statements, Declarations, NoDeclarations, Variables, Arrays, Switch, Procedure}
 use Rattle.gier_meaning.specs.Scopes.{identifiers_in, identifier_in, labels, all_labels}
 use Rattle.gier_meaning.specs.Outcome.{is_among}
 

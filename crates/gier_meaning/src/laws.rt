@@ -1,15 +1,44 @@
 // The meaning by the copy rule, computed: each example's program, data, steps and words give what the example tells.
 ghost use Rattle.gier_meaning.specs.Meaning.{meaning};
 ghost use Rattle.gier_meaning.specs.Example.{IsTold};
-ghost use Rattle.gier_meaning.specs.examples.Arithmetic.{sum_and_product, from_the_left, relations, logical, both_operands, standard, reads, end_of_data, no_digit, spill, spill_of_a_sign, spill_of_abs, division_by_zero, zero_to_zero, negative_exponent, no_character};
-ghost use Rattle.gier_meaning.specs.examples.Statements.{left_parts_first, conditionals, skips_behind_end, loop_by_go_to, into_a_branch, into_the_other_branch, program_label, out_of_blocks, two_labels, statements_of_a_compound};
-ghost use Rattle.gier_meaning.specs.examples.Loops.{three_elements, no_turn, downward, step_evaluated_twice, step_zero, nested, label_in_a_turn, ends_a_turn, out_of_a_turn, labels_of_two_turns, same_label_inside, variable_by_name, spill_of_a_difference, spill_of_the_variable};
-ghost use Rattle.gier_meaning.specs.examples.Blocks.{fresh_each_time, hides, dynamic_array, bounds_once, boolean_array, subscript_below, subscript_above, subscripts_of_another_number, no_elements, elements_above_the_words, own_counter, own_array, own_in_recursion, own_bounds};
-ghost use Rattle.gier_meaning.specs.examples.Procedures.{value_is_a_copy, boolean_by_value, recursion, both_recur, starts_at_zero, assigned_further_in, value_is_dropped, where_it_is_declared, actuals_in_order, labels_of_a_body, out_of_procedures, parts_of_a_call, array_in_recursion};
-ghost use Rattle.gier_meaning.specs.examples.ByName.{jensen, swap, each_use_evaluates, no_use_no_evaluation, place_of_the_call, name_of_a_name, changes_its_formal, boolean_by_name, no_variable, no_variable_behind_a_name, name_in_a_subscript, out_of_an_evaluation, man_or_boy};
-ghost use Rattle.gier_meaning.specs.examples.Labels.{switch, label_formal, undefined_through_a_formal, undefined_in_a_branch, elements_evaluated_at_use, switch_formal, switch_where_it_is_declared, label_of_its_activation, subscript_with_side_effects, leaves_a_switch_element};
-ghost use Rattle.gier_meaning.specs.examples.Formals.{array_formal, boolean_array_formal, string_and_procedure, string_passed_on, agrees, too_few, none, another_kind, function_is_no_expression, all_kinds, formal_function, formal_passed_on, remembers_its_activation, value_through_a_formal, standard_as_expression};
-ghost use Rattle.gier_meaning.specs.examples.Stops.{enough_steps, no_step_for_a_block, no_step_for_a_procedure, no_step_for_an_evaluation, no_step_for_a_turn, no_step_for_an_inner_block, no_step_for_an_element, no_step_for_a_go_to, enough_words, no_room_for_an_evaluation, no_room_for_a_procedure, no_room_for_a_block, no_room_for_the_program, forever, deep_enough, one_word_too_deep, elements_fit, one_element_too_many, room_of_left_arrays, element_without_room};
+ghost use Rattle.gier_meaning.specs.examples.Arithmetic.{sum_and_product, from_the_left, relations, logical, both_operands};
+ghost use Rattle.gier_meaning.specs.examples.Arithmetic.{standard, reads, end_of_data, no_digit, spill, spill_of_a_sign};
+ghost use Rattle.gier_meaning.specs.examples.Arithmetic.{spill_of_abs, division_by_zero, zero_to_zero, negative_exponent};
+ghost use Rattle.gier_meaning.specs.examples.Arithmetic.{no_character};
+ghost use Rattle.gier_meaning.specs.examples.Statements.{left_parts_first, conditionals, skips_behind_end, loop_by_go_to};
+ghost use Rattle.gier_meaning.specs.examples.Statements.{into_a_branch, into_the_other_branch, program_label, out_of_blocks};
+ghost use Rattle.gier_meaning.specs.examples.Statements.{two_labels, statements_of_a_compound};
+ghost use Rattle.gier_meaning.specs.examples.Loops.{three_elements, no_turn, downward, step_evaluated_twice, step_zero, nested};
+ghost use Rattle.gier_meaning.specs.examples.Loops.{label_in_a_turn, ends_a_turn, out_of_a_turn, labels_of_two_turns};
+ghost use Rattle.gier_meaning.specs.examples.Loops.{same_label_inside, variable_by_name, spill_of_a_difference};
+ghost use Rattle.gier_meaning.specs.examples.Loops.{spill_of_the_variable};
+ghost use Rattle.gier_meaning.specs.examples.Blocks.{fresh_each_time, hides, dynamic_array, bounds_once, boolean_array};
+ghost use Rattle.gier_meaning.specs.examples.Blocks.{subscript_below, subscript_above, subscripts_of_another_number, no_elements};
+ghost use Rattle.gier_meaning.specs.examples.Blocks.{elements_above_the_words, own_counter, own_array, own_in_recursion};
+ghost use Rattle.gier_meaning.specs.examples.Blocks.{own_bounds};
+ghost use Rattle.gier_meaning.specs.examples.Procedures.{value_is_a_copy, boolean_by_value, recursion, both_recur};
+ghost use Rattle.gier_meaning.specs.examples.Procedures.{starts_at_zero, assigned_further_in, value_is_dropped};
+ghost use Rattle.gier_meaning.specs.examples.Procedures.{where_it_is_declared, actuals_in_order, labels_of_a_body};
+ghost use Rattle.gier_meaning.specs.examples.Procedures.{out_of_procedures, parts_of_a_call, array_in_recursion};
+ghost use Rattle.gier_meaning.specs.examples.ByName.{jensen, swap, each_use_evaluates, no_use_no_evaluation, place_of_the_call};
+ghost use Rattle.gier_meaning.specs.examples.ByName.{name_of_a_name, changes_its_formal, boolean_by_name, no_variable};
+ghost use Rattle.gier_meaning.specs.examples.ByName.{no_variable_behind_a_name, name_in_a_subscript, out_of_an_evaluation};
+ghost use Rattle.gier_meaning.specs.examples.ByName.{man_or_boy};
+ghost use Rattle.gier_meaning.specs.examples.Labels.{switch, label_formal, undefined_through_a_formal, undefined_in_a_branch};
+ghost use Rattle.gier_meaning.specs.examples.Labels.{elements_evaluated_at_use, switch_formal, switch_where_it_is_declared};
+ghost use Rattle.gier_meaning.specs.examples.Labels.{label_of_its_activation, subscript_with_side_effects};
+ghost use Rattle.gier_meaning.specs.examples.Labels.{leaves_a_switch_element};
+ghost use Rattle.gier_meaning.specs.examples.Formals.{array_formal, boolean_array_formal, string_and_procedure, string_passed_on};
+ghost use Rattle.gier_meaning.specs.examples.Formals.{agrees, too_few, none, another_kind, function_is_no_expression, all_kinds};
+ghost use Rattle.gier_meaning.specs.examples.Formals.{formal_function, formal_passed_on, remembers_its_activation};
+ghost use Rattle.gier_meaning.specs.examples.Formals.{value_through_a_formal, standard_as_expression};
+ghost use Rattle.gier_meaning.specs.examples.Stops.{enough_steps, no_step_for_a_block, no_step_for_a_procedure};
+ghost use Rattle.gier_meaning.specs.examples.Stops.{no_step_for_an_evaluation, no_step_for_a_turn, no_step_for_an_inner_block};
+ghost use Rattle.gier_meaning.specs.examples.Stops.{no_step_for_an_element, no_step_for_a_go_to, enough_words};
+ghost use Rattle.gier_meaning.specs.examples.Stops.{no_room_for_an_evaluation, no_room_for_a_procedure, no_room_for_a_block};
+ghost use Rattle.gier_meaning.specs.examples.Stops.{no_room_for_the_program, forever, deep_enough, one_word_too_deep};
+ghost use Rattle.gier_meaning.specs.examples.Stops.{elements_fit, one_element_too_many, room_of_left_arrays};
+ghost use Rattle.gier_meaning.specs.examples.Stops.{element_without_room};
 
 /// Operators, standard procedures and data, with their alarms (Report 3.3, 3.4).
 pub fn law_arithmetic()

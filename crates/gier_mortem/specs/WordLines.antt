@@ -1,5 +1,6 @@
 -- Which symbols of the text of orders are words of the object, and what is found of the words that were asked for.
-use Rattle.std.specs.Prelude.{◌≡◌, ◌==◌, ◌&&◌, ◌<◌, ◌≤◌, ℕ, Bool, not, if◌then◌else◌, List, [], ◌∷◌, ◌++◌, length, map, max, Option, Some, Result, Ok, Err, ⊤, slice_get, All}
+use Rattle.std.specs.Prelude.{◌≡◌, ◌==◌, ◌&&◌, ◌<◌, ◌≤◌, ℕ, Bool, not, if◌then◌else◌, List, [], ◌∷◌, ◌++◌, length, map, max}
+use Rattle.std.specs.Prelude.{Option, Some, Result, Ok, Err, ⊤, slice_get, All}
 use Rattle.gier_symbol.specs.declared.symbol.Symbol.{Symbol}
 use Rattle.gier_symbol.specs.declared.tag.Tag.TheVariants.{LabelPlace, Need, ObjectWords}
 use Rattle.gier_symbol.specs.Tags.{number_of}
@@ -49,7 +50,9 @@ AreFoundBelow lines address asked = All (λ a. a.address < address → slice_get
 
 -- So far: the words that were passed are those below an address, which is at most the last one asked for; those among them that
 -- were asked for have their lines.
-pub record Searched (before : Option (List Symbol)) (wanted : List ℕ) (left : Option (List Symbol)) (asked : List Asked) (address last : ℕ) : Type 0 where
+pub record Searched (before : Option (List Symbol)) (wanted : List ℕ) (left : Option (List Symbol)) (asked : List Asked)
+    (address last : ℕ) : Type 0 where
   pub same : addresses asked ≡ wanted
   pub within : address ≤ last
-  pub passed : (list : List Symbol) → before ≡ Some list → (read rest : List Symbol) × (list ≡ read ++ rest) × (left ≡ Some rest) × (length (word_lines read) ≡ address) × AreFoundBelow (word_lines list) address asked
+  pub passed : (list : List Symbol) → before ≡ Some list → (read rest : List Symbol) × (list ≡ read ++ rest) ×
+      (left ≡ Some rest) × (length (word_lines read) ≡ address) × AreFoundBelow (word_lines list) address asked

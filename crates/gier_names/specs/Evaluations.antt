@@ -17,7 +17,8 @@ number_of Address = 2
 number_of Label = 3
 
 abbrev pub wanted_at : ℕ → Option Wanted
-wanted_at number = if number == 1 then Some Value else (if number == 2 then Some Address else (if number == 3 then Some Label else None))
+wanted_at number = if number == 1 then Some Value
+    else (if number == 2 then Some Address else (if number == 3 then Some Label else None))
 
 -- THUNK, whose kind is 0 to 3
 abbrev pub is_thunk : Order → Bool
@@ -45,7 +46,8 @@ entered_unless None old new = new
 entered_unless (Some halt) old new = old
 
 abbrev pub begun : State → Order → ℕ → Wanted → ℕ → State
-begun s thunk outer wanted back = entered_unless (entry_refusal s thunk outer) s (after_call s 0 thunk.address outer back (number_of wanted) 0 0)
+begun s thunk outer wanted back = entered_unless (entry_refusal s thunk outer) s
+    (after_call s 0 thunk.address outer back (number_of wanted) 0 0)
 
 -- what the current evaluation is wanted for
 abbrev pub wanted_now : State → Option Wanted

@@ -3,7 +3,8 @@ ghost use Rattle.std.specs.Prelude.{◌≡◌, ◌+◌, ◌<◌, ◌^◌, slice_
 ghost use Rattle.gier_order.specs.Codes.{IsOrder};
 ghost use Rattle.gier_frames.specs.Answers.{Answers};
 ghost use Rattle.gier_frames.specs.Effects.{went_back};
-ghost use Rattle.gier_names.specs.Evaluations.{is_thunk, is_unassignable, begin_refusal, begun, give_refusal, given, picked, value_refusal};
+ghost use Rattle.gier_names.specs.Evaluations.{is_thunk, is_unassignable, begin_refusal, begun, give_refusal, given, picked};
+ghost use Rattle.gier_names.specs.Evaluations.{value_refusal};
 
 use crate::Wanted;
 use gier_frames::{Frames, Halt};

@@ -2,7 +2,8 @@
 -- were referred to last. For whoever keeps so many tracks, proofs/Recency says what one more reference does: it misses
 -- exactly where its track isn't in `most_recent` (`misses-one_more`), and then `most_recent` is the track and the others
 -- (`most_recent-one_more`), each track once (`most_recent_once`) and no more than so many (`most_recent_fits`).
-use Rattle.std.specs.Prelude.{◌==◌, ◌||◌, ℕ, Bool, true, false, nat_le, if◌then◌else◌, List, [], ◌∷◌, length, take, reverse, Option, None, Some}
+use Rattle.std.specs.Prelude.{◌==◌, ◌||◌, ℕ, Bool, true, false, nat_le, if◌then◌else◌, List, [], ◌∷◌, length, take, reverse}
+use Rattle.std.specs.Prelude.{Option, None, Some}
 use Rattle.std.specs.Option.{option_map}
 
 abbrev pub is_among : ℕ → List ℕ → Bool

@@ -1,9 +1,13 @@
--- The order table: the number, the name and the fields of each order. What an order does is told where the operations
--- stand, in src/operation.
+-- The order table: the number, the name and the fields of each order. What an order does stands in Flat/Rows.
 use Rattle.std.specs.Prelude.{ℕ, zero, suc, List, [], ◌∷◌, Option, None, codes}
 use Rattle.std.specs.List.{slice_get}
 use Rattle.gier_order.specs.declared.operation.Operation.{Operation}
-use Rattle.gier_order.specs.declared.operation.Operation.TheVariants.{Start, Stop, Take, Short, Long, Keep, Addr, Fetch, Put, Add, Sub, Mul, Div, Pow, Neg, Lt, Le, Eq, Ge, Gt, Ne, Not, And, Or, Impl, Equiv, Jump, False, Test, Turn, Block, Leave, Array, Index, Proc, Call, Formal, Return, Thunk, Value, Place, NameL, Pass, Back, Give, Lib, Switch, SwForm, Lab, Go, Base, Kinds, Agree, ByVal, CallF}
+use Rattle.gier_order.specs.declared.operation.Operation.TheVariants.{Start, Stop, Take, Short, Long, Keep, Addr, Fetch, Put, Add}
+use Rattle.gier_order.specs.declared.operation.Operation.TheVariants.{Sub, Mul, Div, Pow, Neg, Lt, Le, Eq, Ge, Gt, Ne, Not, And}
+use Rattle.gier_order.specs.declared.operation.Operation.TheVariants.{Or, Impl, Equiv, Jump, False, Test, Turn, Block, Leave}
+use Rattle.gier_order.specs.declared.operation.Operation.TheVariants.{Array, Index, Proc, Call, Formal, Return, Thunk, Value}
+use Rattle.gier_order.specs.declared.operation.Operation.TheVariants.{Place, NameL, Pass, Back, Give, Lib, Switch, SwForm, Lab}
+use Rattle.gier_order.specs.declared.operation.Operation.TheVariants.{Go, Base, Kinds, Agree, ByVal, CallF}
 use Rattle.gier_order.specs.declared.operation.Fields.{Fields}
 use Rattle.gier_order.specs.declared.operation.Fields.TheVariants.{Both, Level, Address, Neither}
 

@@ -76,7 +76,8 @@ pub enum Operation {
     Leave,
     /// ARRAY l, a: an array of l dimensions with the descriptor at w, from the 2l bounds at C + R; alarms `bounds` and `stack`.
     Array,
-    /// INDEX l, a: R := the place of the element, from the place of the descriptor in w and the l subscripts after it; alarm `subscript`.
+    /// INDEX l, a: R := the place of the element, from the place of the descriptor in w and the l subscripts after it; alarm
+    /// `subscript`.
     Index,
     /// PROC l, a: is not executed: level and room of a procedure.
     Proc,
@@ -86,7 +87,8 @@ pub enum Operation {
     Formal,
     /// RETURN a: leaves a procedure; where a is 1, R := its value.
     Return,
-    /// THUNK l, a: is not executed: kind l and room a of an evaluation; 0 is an expression, 1 a variable, 2 a label, 3 a name formal.
+    /// THUNK l, a: is not executed: kind l and room a of an evaluation; 0 is an expression, 1 a variable, 2 a label, 3 a name
+    /// formal.
     Thunk,
     /// VALUE l, a: enters the evaluation in cell, enclosed by the base after it; a value is wanted.
     Value,
@@ -102,7 +104,8 @@ pub enum Operation {
     Give,
     /// LIB a: the standard procedure a, on R.
     Lib,
-    /// SWITCH l, a: enters the evaluation of element R of the switch at a, enclosed by the visible activation of level l; where there is none, R := 0, Q := 0.
+    /// SWITCH l, a: enters the evaluation of element R of the switch at a, enclosed by the visible activation of level l; where
+    /// there is none, R := 0, Q := 0.
     Switch,
     /// SWFORM l, a: the same, for the switch in cell, enclosed by the base after it.
     SwForm,

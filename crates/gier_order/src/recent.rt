@@ -1,6 +1,7 @@
 // How many references to tracks miss, for every number of places at once: a list of the tracks that were referred to
 // last, and a count for each place of it. It reads no track and holds none.
-ghost use Rattle.std.specs.Prelude.{◌≡◌, ◌+◌, ◌<◌, ◌≤◌, ◌^◌, ◌∷◌, ◌++◌, ◌==◌, ℕ, List, [], length, take, remove, position, sum, drop};
+ghost use Rattle.std.specs.Prelude.{◌≡◌, ◌+◌, ◌<◌, ◌≤◌, ◌^◌, ◌∷◌, ◌++◌, ◌==◌, ℕ, List, [], length, take, remove, position, sum};
+ghost use Rattle.std.specs.Prelude.{drop};
 ghost use Rattle.gier_order.specs.Counts.{references_taken, StandsFor};
 ghost use Rattle.gier_order.specs.Misses.{misses};
 

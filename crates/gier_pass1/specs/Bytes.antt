@@ -1,15 +1,19 @@
 -- What a byte is by itself.
 use Rattle.std.specs.Prelude.{◌==◌, ◌&&◌, ◌||◌, ℕ, Bool, IsTrue, nat_le, if◌then◌else◌, Option, None, Some}
 use Rattle.gier_symbol.specs.declared.tag.Tag.{Tag}
-use Rattle.gier_symbol.specs.declared.tag.Tag.TheVariants.{Plus, Minus, Times, Power, Less, NotGreater, Equal, NotLess, Greater, NotEqual, Comma, Colon, Semicolon, Becomes, LeftParenthesis, RightParenthesis, LeftBracket, RightBracket}
+use Rattle.gier_symbol.specs.declared.tag.Tag.TheVariants.{Plus, Minus, Times, Power, Less, NotGreater, Equal, NotLess, Greater}
+use Rattle.gier_symbol.specs.declared.tag.Tag.TheVariants.{NotEqual, Comma, Colon, Semicolon, Becomes, LeftParenthesis}
+use Rattle.gier_symbol.specs.declared.tag.Tag.TheVariants.{RightParenthesis, LeftBracket, RightBracket}
 use Rattle.gier_symbol.specs.declared.word.Spelling.{Spelling}
 use Rattle.gier_symbol.specs.Tags.{number_of}
 use Rattle.gier_symbol.specs.Texts.{stands_in}
 use Rattle.gier_symbol.specs.Words.{word_byte}
 use Rattle.gier_pass1.specs.declared.bytes.Kind.{Kind}
-use Rattle.gier_pass1.specs.declared.bytes.Kind.TheVariants.{Layout, Letter, Digit, WordStart, StringStart, DoubleSignPrefix as OpenerKind, Sign, Other}
+use Rattle.gier_pass1.specs.declared.bytes.Kind.TheVariants.{Layout, Letter, Digit, WordStart, StringStart}
+use Rattle.gier_pass1.specs.declared.bytes.Kind.TheVariants.{DoubleSignPrefix as OpenerKind, Sign, Other}
 use Rattle.gier_pass1.specs.declared.bytes.DoubleSignPrefix.{DoubleSignPrefix}
-use Rattle.gier_pass1.specs.declared.bytes.DoubleSignPrefix.TheVariants.{Less as LessOpener, Greater as GreaterOpener, Colon as ColonOpener}
+use Rattle.gier_pass1.specs.declared.bytes.DoubleSignPrefix.TheVariants.{Less as LessOpener, Greater as GreaterOpener}
+use Rattle.gier_pass1.specs.declared.bytes.DoubleSignPrefix.TheVariants.{Colon as ColonOpener}
 
 -- tabulator, new line, carriage return and space
 abbrev pub is_layout : ℕ → Bool

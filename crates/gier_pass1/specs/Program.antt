@@ -1,5 +1,6 @@
 -- What of a tape is the program text: all bytes before the first `#`, at most 524,288 of them.
-use Rattle.std.specs.Prelude.{◌≡◌, ◌≢◌, ◌==◌, ◌<◌, ◌≤◌, ◌+◌, ℕ, min, if◌then◌else◌, List, [], ◌∷◌, length, drop, slice_get, Option, None, Some, Result, Ok, Err}
+use Rattle.std.specs.Prelude.{◌≡◌, ◌≢◌, ◌==◌, ◌<◌, ◌≤◌, ◌+◌, ℕ, min, if◌then◌else◌, List, [], ◌∷◌, length, drop, slice_get}
+use Rattle.std.specs.Prelude.{Option, None, Some, Result, Ok, Err}
 use Rattle.gier_pass1.specs.declared.read.ReadStop.{ReadStop}
 use Rattle.gier_pass1.specs.declared.read.ReadStop.TheVariants.{TooLong, Read, Pass}
 

@@ -13,7 +13,8 @@ use Rattle.gier_pass1.specs.declared.read.ReadStop.{ReadStop}
 use Rattle.gier_pass1.specs.declared.read.ReadStop.TheVariants.{TooLong, Read, Pass}
 
 -- nothing is done to the store and the output but by writes to the output
-pub record Frame {T S : Type 0} (view : T → S → View) (first end : T → ℕ) (room : S → ℕ) (tracks : S → Option (List (List ℕ))) (faults : S → ℕ) (out : T) (store : S) (new_out : T) (new_store : S) : Type 0 where
+pub record Frame {T S : Type 0} (view : T → S → View) (first end : T → ℕ) (room : S → ℕ) (tracks : S → Option (List (List ℕ)))
+    (faults : S → ℕ) (out : T) (store : S) (new_out : T) (new_store : S) : Type 0 where
   pub place : IsPlacedAs first end out new_out
   pub same_room : room new_store ≡ room store
   pub same_tracks : KeepsTracks (first out) (end out) (tracks store) (tracks new_store)

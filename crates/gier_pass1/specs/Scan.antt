@@ -1,7 +1,8 @@
 -- What each step of the reading gives, by the rules of the source form.
 use Rattle.std.specs.Prelude.{◌==◌, ◌||◌, ◌+◌, ◌-◌, ℕ, Bool, true, false, nat_le, if◌then◌else◌, Option, None, Some}
 use Rattle.gier_symbol.specs.declared.tag.Tag.{Tag}
-use Rattle.gier_symbol.specs.declared.tag.Tag.TheVariants.{Letter, Digit, StringBegin, StringByte, StringEnd, Semicolon, Begin, End, Else}
+use Rattle.gier_symbol.specs.declared.tag.Tag.TheVariants.{Letter, Digit, StringBegin, StringByte, StringEnd, Semicolon, Begin}
+use Rattle.gier_symbol.specs.declared.tag.Tag.TheVariants.{End, Else}
 use Rattle.gier_symbol.specs.declared.word.Spelling.TheVariants.{Plain, Quoted}
 use Rattle.gier_symbol.specs.Tags.{number_of}
 use Rattle.gier_symbol.specs.Words.{comment_word as comment_number}
@@ -11,9 +12,11 @@ use Rattle.gier_text.specs.declared.fault.FaultKind.{FaultKind}
 use Rattle.gier_text.specs.declared.fault.FaultKind.TheVariants.{Character, Word as WordFault, Unclosed}
 use Rattle.gier_pass1.specs.declared.bytes.DoubleSignPrefix.{DoubleSignPrefix}
 use Rattle.gier_pass1.specs.declared.bytes.Kind.{Kind}
-use Rattle.gier_pass1.specs.declared.bytes.Kind.TheVariants.{Layout, Letter as LetterKind, Digit as DigitKind, WordStart, StringStart, DoubleSignPrefix as OpenerKind, Sign, Other}
+use Rattle.gier_pass1.specs.declared.bytes.Kind.TheVariants.{Layout, Letter as LetterKind, Digit as DigitKind, WordStart}
+use Rattle.gier_pass1.specs.declared.bytes.Kind.TheVariants.{StringStart, DoubleSignPrefix as OpenerKind, Sign, Other}
 use Rattle.gier_pass1.specs.declared.state.Mode.{Mode}
-use Rattle.gier_pass1.specs.declared.state.Mode.TheVariants.{Start, Between, AfterPrefix, InWord, InString, InComment, InSkipped, InSkippedWord}
+use Rattle.gier_pass1.specs.declared.state.Mode.TheVariants.{Start, Between, AfterPrefix, InWord, InString, InComment}
+use Rattle.gier_pass1.specs.declared.state.Mode.TheVariants.{InSkipped, InSkippedWord}
 use Rattle.gier_pass1.specs.declared.state.Place.{Place}
 use Rattle.gier_pass1.specs.declared.state.State.{State}
 use Rattle.gier_pass1.specs.declared.state.Token.{Token}
@@ -97,8 +100,16 @@ double_behind opener None = None
 double_behind opener (Some byte) = double_of opener byte
 
 abbrev pub sign_of_double : State → DoubleSignPrefix → Option Tag → Step
-sign_of_double state opener None = record { state = between_symbols state false; found = began_symbol state (number_of (single_sign opener)); taken = false }
-sign_of_double state opener (Some tag) = record { state = between_symbols state false; found = began_symbol state (number_of tag); taken = true }
+sign_of_double state opener None = record {
+  state = between_symbols state false;
+  found = began_symbol state (number_of (single_sign opener));
+  taken = false;
+}
+sign_of_double state opener (Some tag) = record {
+  state = between_symbols state false;
+  found = began_symbol state (number_of tag);
+  taken = true;
+}
 
 abbrev pub sign_ended : State → DoubleSignPrefix → Option ℕ → Step
 sign_ended state opener byte = sign_of_double state opener (double_behind opener byte)
@@ -133,7 +144,11 @@ comment_word state taken =
 abbrev pub plain_word : State → ℕ → Bool → Step
 plain_word state number taken =
     if number == comment_number then comment_word state taken
-    else record { state = record state { mode = mode_behind number; may_comment = number == number_of Begin }; found = began_symbol state number; taken = taken }
+    else record {
+      state = record state { mode = mode_behind number; may_comment = number == number_of Begin };
+      found = began_symbol state number;
+      taken = taken;
+    }
 
 -- in what is skipped only the end word and the else word count, and no word is a fault
 abbrev pub skipped_on : State → Bool → Step
@@ -142,7 +157,11 @@ skipped_on state taken = record { state = record state { mode = InSkipped }; fou
 abbrev pub skipped_word : State → ℕ → Bool → Step
 skipped_word state number taken =
     if number == number_of End || number == number_of Else
-    then record { state = record state { mode = mode_behind number; may_comment = false }; found = began_symbol state number; taken = taken }
+    then record {
+      state = record state { mode = mode_behind number; may_comment = false };
+      found = began_symbol state number;
+      taken = taken;
+    }
     else skipped_on state taken
 
 abbrev pub word_found_in : Mode → State → ℕ → Bool → Step
@@ -180,13 +199,21 @@ word_step state (WordBefore number) = word_found state number false
 word_step state FaultBefore = word_wrong state false
 
 abbrev pub one_byte : State → Tag → ℕ → Step
-one_byte state tag value = record { state = between_symbols state (number_of tag == number_of Semicolon); found = here_symbol state tag value; taken = true }
+one_byte state tag value = record {
+  state = between_symbols state (number_of tag == number_of Semicolon);
+  found = here_symbol state tag value;
+  taken = true;
+}
 
 abbrev pub opens : State → Mode → Step
 opens state mode = goes (record state { mode = mode; began = state.here })
 
 abbrev pub string_starts : State → Step
-string_starts state = record { state = record state { mode = InString 1; may_comment = false; began = state.here }; found = here_symbol state StringBegin 0; taken = true }
+string_starts state = record {
+  state = record state { mode = InString 1; may_comment = false; began = state.here };
+  found = here_symbol state StringBegin 0;
+  taken = true;
+}
 
 -- a byte with which a symbol may begin
 abbrev pub begin_as : Kind → State → ℕ → Step
@@ -209,7 +236,11 @@ first_step state byte =
 
 -- each byte of a string stands for itself, and inner pairs of braces nest
 abbrev pub string_byte : State → ℕ → ℕ → Step
-string_byte state depth byte = record { state = record state { mode = InString depth }; found = here_symbol state StringByte byte; taken = true }
+string_byte state depth byte = record {
+  state = record state { mode = InString depth };
+  found = here_symbol state StringByte byte;
+  taken = true;
+}
 
 abbrev pub string_shut : State → ℕ → ℕ → Step
 string_shut state depth byte =

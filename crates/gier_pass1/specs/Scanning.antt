@@ -50,7 +50,8 @@ IfBehind scanner P = (letters : List ℕ) → scanner.reader ≡ behind scanner.
 
 -- a step of the reader, whatever letters it has read
 abbrev pub FeedsAny : Reading → Option ℕ → Fed → Reading → Type 0
-FeedsAny reader byte answer new = (letters : List ℕ) → reader ≡ behind reader.spelling letters → Feeds reader.spelling letters byte answer new
+FeedsAny reader byte answer new = (letters : List ℕ) → reader ≡ behind reader.spelling letters
+    → Feeds reader.spelling letters byte answer new
 
 -- the reader keeps its letters, in the spelling that is told by then
 abbrev pub KeepsLetters : State → Reading → State → Reading → Type 0

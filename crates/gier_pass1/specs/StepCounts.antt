@@ -6,7 +6,8 @@ use Rattle.gier_symbol.specs.Words.{comment_word as comment_number}
 use Rattle.gier_strop.specs.declared.reader.Fed.{Fed}
 use Rattle.gier_strop.specs.declared.reader.Fed.TheVariants.{More, Word, Fault, WordBefore, FaultBefore}
 use Rattle.gier_pass1.specs.declared.state.Mode.{Mode}
-use Rattle.gier_pass1.specs.declared.state.Mode.TheVariants.{Start, Between, AfterPrefix, InWord, InString, InComment, InSkipped, InSkippedWord}
+use Rattle.gier_pass1.specs.declared.state.Mode.TheVariants.{Start, Between, AfterPrefix, InWord, InString, InComment}
+use Rattle.gier_pass1.specs.declared.state.Mode.TheVariants.{InSkipped, InSkippedWord}
 use Rattle.gier_pass1.specs.declared.state.State.{State}
 use Rattle.gier_pass1.specs.declared.state.Token.{Token}
 use Rattle.gier_pass1.specs.declared.state.Token.TheVariants.{Nothing, Written, LexError}

@@ -42,6 +42,7 @@ TellsTape (Some tape) added old new before after bytes =
     (bytes ≡ length (program_of tape)) × Tells (symbols_of (program_of tape)) added old new before after
 
 -- the same by what texts, stores and tables are
-abbrev pub TellsAll : {T S : Type 0} → Option (List ℕ) → Tables → (T → S → View) → (S → Option (List Entry)) → T → S → T → S → ℕ → Type 0
+abbrev pub TellsAll : {T S : Type 0} → Option (List ℕ) → Tables → (T → S → View) → (S → Option (List Entry)) → T → S → T → S → ℕ
+    → Type 0
 TellsAll tape tables view journal out store new_out new_store bytes =
     TellsTape tape (tables_model tables).faults (view out store) (view new_out new_store) (journal store) (journal new_store) bytes

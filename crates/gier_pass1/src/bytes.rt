@@ -2,7 +2,8 @@
 ghost use Rattle.std.specs.Prelude.{◌≡◌, IsTrue, IfSome};
 ghost use Rattle.gier_symbol.specs.Tags.{number_of};
 ghost use Rattle.gier_symbol.specs.Texts.{stands_in};
-ghost use Rattle.gier_pass1.specs.Bytes.{is_layout, is_letter, is_digit, starts_word, opener_of, sign_of, sign_kind, kind_of, single_sign, double_of, IsSignOfText};
+ghost use Rattle.gier_pass1.specs.Bytes.{is_layout, is_letter, is_digit, starts_word, opener_of, sign_of, sign_kind, kind_of};
+ghost use Rattle.gier_pass1.specs.Bytes.{single_sign, double_of, IsSignOfText};
 
 use gier_symbol::{Spelling, Tag};
 

@@ -24,16 +24,23 @@ pub(crate) fn put<T: Text>(
     requires begun { IsLetter founds.begun }
     requires writing { (T.view out.old store.old).rewound ≡ false }
     requires placed { T.end_track out.old ≤ T.room store.old }
-    requires room { length (tables_model tables.old).faults + (faults_in founds.ended + faults_in founds.begun) ≤ (tables_model tables.old).limit + 1 }
-    ensures puts { OnOk result (Puts (letters_in founds.ended ++ letters_in founds.begun) (T.view out.old store.old) (T.view out.new store.new) (T.journal store.old) (T.journal store.new)) }
-    ensures counted { OnOk result ((T.view out.new store.new).count ≡ (T.view out.old store.old).count + (symbols_in founds.ended + symbols_in founds.begun)) }
-    ensures tables { AddsFaults (tables_model tables.old) (tables_model tables.new) (faults_in founds.ended + faults_in founds.begun) }
-    ensures added { OnOk result (AddsFounds (tables_model tables.old).faults founds.ended founds.begun (tables_model tables.new).faults) }
+    requires room { length (tables_model tables.old).faults + (faults_in founds.ended + faults_in founds.begun)
+        ≤ (tables_model tables.old).limit + 1 }
+    ensures puts { OnOk result (Puts (letters_in founds.ended ++ letters_in founds.begun) (T.view out.old store.old)
+        (T.view out.new store.new) (T.journal store.old) (T.journal store.new)) }
+    ensures counted { OnOk result ((T.view out.new store.new).count
+        ≡ (T.view out.old store.old).count + (symbols_in founds.ended + symbols_in founds.begun)) }
+    ensures tables { AddsFaults (tables_model tables.old) (tables_model tables.new)
+        (faults_in founds.ended + faults_in founds.begun) }
+    ensures added { OnOk result (AddsFounds (tables_model tables.old).faults founds.ended founds.begun
+        (tables_model tables.new).faults) }
     ensures frame { Frame T.view T.first_track T.end_track T.room T.tracks T.faults out.old store.old out.new store.new }
     ensures failed { IsErrOf result Drum → HasRisen (T.faults store.old) (T.faults store.new) }
     ensures memory { IsErrOf result Memory → IsTrue T.grows }
     ensures full { IsErrOf result Full → IsFull (T.view out.new store.new) }
-    ensures roomy { IsErrOf result Full → HasLess (T.view out.old store.old) ((T.view out.old store.old).count + (symbols_in founds.ended + symbols_in founds.begun)) }
+    ensures roomy { IsErrOf result Full
+        → HasLess (T.view out.old store.old)
+        ((T.view out.old store.old).count + (symbols_in founds.ended + symbols_in founds.begun)) }
     ensures sound { SpoiltIf result ⊥ }
 {
     emit(founds.ended, store, out, tables)?;
@@ -50,7 +57,8 @@ fn emit<T: Text>(
     requires writing { (T.view out.old store.old).rewound ≡ false }
     requires placed { T.end_track out.old ≤ T.room store.old }
     requires room { length (tables_model tables.old).faults + faults_in found ≤ (tables_model tables.old).limit + 1 }
-    ensures puts { OnOk result (Puts (letters_in found) (T.view out.old store.old) (T.view out.new store.new) (T.journal store.old) (T.journal store.new)) }
+    ensures puts { OnOk result (Puts (letters_in found) (T.view out.old store.old) (T.view out.new store.new)
+        (T.journal store.old) (T.journal store.new)) }
     ensures counted { OnOk result ((T.view out.new store.new).count ≡ (T.view out.old store.old).count + symbols_in found) }
     ensures tables { AddsFaults (tables_model tables.old) (tables_model tables.new) (faults_in found) }
     ensures added { AddsFound (tables_model tables.old).faults found (tables_model tables.new).faults }

@@ -6,16 +6,14 @@ ghost use Rattle.gier_pass1.specs.Program.{longest, GivesNext};
 
 use crate::ReadStop;
 use gier_io::Source;
-
-/// The most bytes that a program text may have.
-pub(crate) const LONGEST: u32 = 524_288;
+use gier_limits::LIMIT;
 
 // The byte that ends the program text.
 const MARK: u8 = b'#';
 
 /// The next byte of the program text, of which so many were taken, or None behind its mark or at the end of the tape.
 ///
-/// Too long is a text of which one byte more than `LONGEST` was taken.
+/// Too long is a text of which one byte more than `LIMIT` was taken.
 pub(crate) fn next_byte<S: Source>(tape: &mut S, taken: u32) -> Result<Option<u8>, ReadStop>
     requires { taken ≤ longest }
     ensures given { GivesNext (S.left tape.old) taken result (S.left tape.new) }
@@ -29,7 +27,7 @@ pub(crate) fn next_byte<S: Source>(tape: &mut S, taken: u32) -> Result<Option<u8
             if byte == MARK {
                 return Ok(None);
             }
-            if taken == LONGEST {
+            if taken == LIMIT {
                 return Err(ReadStop::TooLong);
             }
             Ok(Some(byte))

@@ -49,7 +49,8 @@ impl Pass1 {
         requires empty { IsEmpty (T.view out.old store.old) }
         requires placed { T.end_track out.old ≤ T.room store.old }
         ensures taken { Takes result (S.left tape.old) (S.left tape.new) }
-        ensures symbols { OnOk result ((ws : List Symbol) × Puts ws (T.view out.old store.old) (T.view out.new store.new) (T.journal store.old) (T.journal store.new)) }
+        ensures symbols { OnOk result ((ws : List Symbol)
+            × Puts ws (T.view out.old store.old) (T.view out.new store.new) (T.journal store.old) (T.journal store.new)) }
         ensures bounded { IfOk result (λ bytes. (T.view out.new store.new).count ≤ bytes + 1) }
         ensures tables { AddsFaults (tables_model tables.old) (tables_model tables.new) longest }
         ensures frame { Frame T.view T.first_track T.end_track T.room T.tracks T.faults out.old store.old out.new store.new }

@@ -2,13 +2,14 @@
 ghost use Rattle.std.specs.Prelude.{◌≡◌, ◌<◌, ◌≤◌, ◌+◌, ◌^◌, [], None};
 ghost use Rattle.gier_strop.specs.declared.reader.Fed.TheVariants.{More};
 ghost use Rattle.gier_symbol.specs.declared.tag.Tag.TheVariants.{TextEnd};
-ghost use Rattle.gier_pass1.specs.StepCounts.{IsLetter, IsKnown, HasLines, PreservesCountsAtEnd, PreservesCounts, symbols_in, faults_in, owed_symbols, owed_faults};
+ghost use Rattle.gier_pass1.specs.StepCounts.{IsLetter, IsKnown, HasLines, PreservesCountsAtEnd, PreservesCounts, symbols_in};
+ghost use Rattle.gier_pass1.specs.StepCounts.{faults_in, owed_symbols, owed_faults};
 ghost use Rattle.gier_pass1.specs.Program.{longest};
 ghost use Rattle.gier_pass1.specs.Scan.{depth_of, start_state, here_symbol, at_end};
 ghost use Rattle.gier_pass1.specs.Scanning.{IsScanning, HasLetters, ReadsLetters, IfRead, IfBehind, FeedsAny, KeepsLetters};
 ghost use Rattle.gier_pass1.specs.Scanning.{EndsWord, EndsStep, TakesByte, ended_step, begun_step};
 
-use crate::state::{Token, State, Step, start_state};
+use crate::state::{State, Step, Token, start_state};
 use crate::steps::{at_end, goes, sign_step, taken_step, word_step};
 use gier_strop::{Fed, Spelling, WordReader};
 use gier_symbol::Tag;
@@ -49,8 +50,10 @@ impl Scanner {
         ensures place { self.new.state.here.at ≡ self.old.state.here.at + 1 }
         ensures ended { IsLetter result.ended }
         ensures begun { IsLetter result.begun }
-        ensures symbols { symbols_in result.ended + symbols_in result.begun + owed_symbols self.new.state.mode ≤ owed_symbols self.old.state.mode + 1 }
-        ensures faults { faults_in result.ended + faults_in result.begun + owed_faults self.new.state.mode ≤ owed_faults self.old.state.mode + 1 }
+        ensures symbols { symbols_in result.ended + symbols_in result.begun + owed_symbols self.new.state.mode
+            ≤ owed_symbols self.old.state.mode + 1 }
+        ensures faults { faults_in result.ended + faults_in result.begun + owed_faults self.new.state.mode
+            ≤ owed_faults self.old.state.mode + 1 }
         ensures told { IfRead self.old (λ letters. TakesByte self.old letters byte result self.new) }
     {
         let ended = self.ended(Some(byte));

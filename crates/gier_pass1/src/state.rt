@@ -2,7 +2,8 @@
 ghost use Rattle.std.specs.Prelude.{◌≡◌, ◌<◌, ◌^◌, IsTrue};
 ghost use Rattle.gier_symbol.specs.Tags.{number_of};
 ghost use Rattle.gier_symbol.specs.Texts.{stands_in};
-ghost use Rattle.gier_pass1.specs.Scan.{began_symbol, here_symbol, began_fault, here_fault, start_state, at_next_byte, is_start, in_word, line_after};
+ghost use Rattle.gier_pass1.specs.Scan.{began_symbol, here_symbol, began_fault, here_fault, start_state, at_next_byte};
+ghost use Rattle.gier_pass1.specs.Scan.{is_start, in_word, line_after};
 ghost use Rattle.gier_pass1.specs.StepCounts.{IsLetter};
 
 use crate::bytes::DoubleSignPrefix;

@@ -3,12 +3,17 @@
 ghost use Rattle.std.specs.Prelude.{◌≡◌, ◌<◌, ◌≤◌, ◌+◌, ◌-◌, ◌^◌, IsTrue, IfSome, true};
 ghost use Rattle.gier_symbol.specs.Tags.{number_of};
 ghost use Rattle.gier_symbol.specs.Texts.{stands_in};
-ghost use Rattle.gier_pass1.specs.declared.state.Mode.TheVariants.{AfterPrefix, InWord, InString, InComment, InSkipped, InSkippedWord};
-ghost use Rattle.gier_pass1.specs.Scan.{depth_of, goes, stays, sign_step, sign_ended, double_behind, word_step, word_found, word_wrong, plain_word, comment_word, mode_behind, skipped_word, skipped_on, fault_of_word, taken_step, first_step, begin_step, one_byte, opens, string_starts, string_step, string_shut, string_byte, comment_step, skipped_step, at_end};
-ghost use Rattle.gier_pass1.specs.StepCounts.{IsLetter, IsKnown, IsOpened, HasLines, PreservesCountsAtEnd, PreservesCounts, is_word_number, symbols_in, faults_in, owed_faults};
+ghost use Rattle.gier_pass1.specs.declared.state.Mode.TheVariants.{AfterPrefix, InWord, InString, InComment, InSkipped};
+ghost use Rattle.gier_pass1.specs.declared.state.Mode.TheVariants.{InSkippedWord};
+ghost use Rattle.gier_pass1.specs.Scan.{depth_of, goes, stays, sign_step, sign_ended, double_behind, word_step, word_found};
+ghost use Rattle.gier_pass1.specs.Scan.{word_wrong, plain_word, comment_word, mode_behind, skipped_word, skipped_on};
+ghost use Rattle.gier_pass1.specs.Scan.{fault_of_word, taken_step, first_step, begin_step, one_byte, opens, string_starts};
+ghost use Rattle.gier_pass1.specs.Scan.{string_step, string_shut, string_byte, comment_step, skipped_step, at_end};
+ghost use Rattle.gier_pass1.specs.StepCounts.{IsLetter, IsKnown, IsOpened, HasLines, PreservesCountsAtEnd, PreservesCounts};
+ghost use Rattle.gier_pass1.specs.StepCounts.{is_word_number, symbols_in, faults_in, owed_faults};
 
-use crate::bytes::{Kind, DoubleSignPrefix, alone, double_of, kind_of, starts_word};
-use crate::state::{Token, Mode, State, Step};
+use crate::bytes::{DoubleSignPrefix, Kind, alone, double_of, kind_of, starts_word};
+use crate::state::{Mode, State, Step, Token};
 use gier_strop::Fed;
 use gier_symbol::{COMMENT_WORD, Spelling, Tag};
 use gier_text::FaultKind;

@@ -21,7 +21,8 @@ assembled_pieces symbols = pieces (runs symbols 0) standard_names
 -- whatever is assembled, identifiers have the same number just where they have the same characters, and a standard one has
 -- its place among the standard ones
 pub record AreToldApart (symbols : List Symbol) : Type 0 where
-  pub same : (name : List ℕ) (a b : ℕ) → HasName name a (assembled_pieces symbols) → HasName name b (assembled_pieces symbols) → a ≡ b
+  pub same : (name : List ℕ) (a b : ℕ) → HasName name a (assembled_pieces symbols) → HasName name b (assembled_pieces symbols)
+      → a ≡ b
   pub apart : (name other : List ℕ) (a : ℕ) → HasName name a (assembled_pieces symbols) → HasName other a (assembled_pieces symbols)
       → name ≡ other
   pub standard : (k a : ℕ) → k < length standard_names → HasName (slice_index_or standard_names k []) a (assembled_pieces symbols)

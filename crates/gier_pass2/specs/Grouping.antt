@@ -41,4 +41,5 @@ IsAs (ASymbol t) s plain = (t ≡ s) × (plain ≡ false)
 -- what a run gives at its end
 abbrev pub Gives : Option AssembledToken → List Piece → Type 0
 Gives None pieces = pieces ≡ []
-Gives (Some word) pieces = (piece : Piece) × (pieces ≡ piece ∷ []) × (piece.symbol ≡ word.symbol) × IsAs piece.run word.symbol word.plain
+Gives (Some word) pieces = (piece : Piece) × (pieces ≡ piece ∷ []) × (piece.symbol ≡ word.symbol)
+    × IsAs piece.run word.symbol word.plain

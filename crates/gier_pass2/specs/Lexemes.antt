@@ -44,7 +44,12 @@ pub record GivesName (at_line : ℕ) (is_plain : Bool) (word : AssembledToken) :
   pub plain : word.plain ≡ is_plain
 
 pub record GivesNumber (total at_line : ℕ) (word : AssembledToken) : Type 0 where
-  pub symbol : word.symbol ≡ record { tag = number_of NumberTag; value = if nat_lt total (2 ^ 39) then total else 0; line = at_line }
+  pub symbol : word.symbol ≡ record {
+    tag = number_of NumberTag;
+    value = if nat_lt total (2 ^ 39) then total
+        else 0;
+    line = at_line;
+  }
   pub plain : word.plain ≡ false
 
 abbrev pub EndsAs : Lexeme → Option AssembledToken → Type 0

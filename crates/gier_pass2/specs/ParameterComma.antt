@@ -55,4 +55,5 @@ abbrev pub given_by : PendingComma → Symbol → Bool → List Symbol
 given_by Nothing s plain = given_behind Nothing s
 given_by (Shut shut) s plain = if plain then [] else given_behind (Shut shut) s
 given_by (Name shut name) s plain = if is_kind ColonTag s then [] else given_behind (Name shut name) s
-given_by (Colon shut name colon) s plain = if is_kind LeftParenthesis s then comma_at shut.line ∷ [] else given_behind (Colon shut name colon) s
+given_by (Colon shut name colon) s plain = if is_kind LeftParenthesis s then comma_at shut.line ∷ []
+    else given_behind (Colon shut name colon) s

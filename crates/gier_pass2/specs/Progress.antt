@@ -10,7 +10,8 @@ use Rattle.gier_pass2.specs.Grouping.{IsGrouped, Gives}
 use Rattle.gier_pass2.specs.Reading.{IsCut, IsReading, names_of}
 
 -- the run that was read has ended, and given its piece
-pub record IsEndedRun (t : TablesModel) (known read : ℕ) (done : List Lexeme) (pending : List Symbol) (word : Option AssembledToken) : Type 0 where
+pub record IsEndedRun (t : TablesModel) (known read : ℕ) (done : List Lexeme) (pending : List Symbol)
+    (word : Option AssembledToken) : Type 0 where
   pub reading : IsReading t known Nothing read (done ++ runs pending 0) []
   pub gives : Gives word (pieces (runs pending 0) (names_of done))
 

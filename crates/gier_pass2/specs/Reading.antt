@@ -4,7 +4,8 @@ use Rattle.std.specs.Prelude.{◌≡◌, ◌<◌, ◌^◌, ◌++◌, ◌∷◌, 
 use Rattle.std.specs.List.{list_all}
 use Rattle.gier_symbol.specs.declared.symbol.Symbol.{Symbol}
 use Rattle.gier_symbol.specs.declared.tag.Tag.TheVariants.{Letter, Digit}
-use Rattle.gier_symbol.specs.Assembly.{Lexeme as RunOf, AName, ANumber, ASymbol, is, is_letter_or_digit, byte_of, decimal, runs, number_faults, standard_names, known_by, place_of}
+use Rattle.gier_symbol.specs.Assembly.{Lexeme as RunOf, AName, ANumber, ASymbol, is, is_letter_or_digit, byte_of, decimal, runs}
+use Rattle.gier_symbol.specs.Assembly.{number_faults, standard_names, known_by, place_of}
 use Rattle.gier_symbol.specs.Bytes.{is_letter}
 use Rattle.gier_text.specs.declared.fault.Fault.{Fault}
 use Rattle.gier_text.specs.TablesModel.{TablesModel}
@@ -78,7 +79,8 @@ pub record HasFaultsOf (faults : List Fault) (done : List RunOf) (run : Lexeme) 
   pub begun : HasBegun run read
 
 -- these runs have ended, and one is read, of these symbols
-pub record IsReading (t : TablesModel) (known : ℕ) (current : Lexeme) (read : ℕ) (done : List RunOf) (pending : List Symbol) : Type 0 where
+pub record IsReading (t : TablesModel) (known : ℕ) (current : Lexeme) (read : ℕ) (done : List RunOf)
+    (pending : List Symbol) : Type 0 where
   pub tree : Tree
   pub knows : Knows t tree known (names_of done)
   pub run : IsRunOf tree current pending

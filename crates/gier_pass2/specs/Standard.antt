@@ -8,7 +8,8 @@ abbrev pub standard_bytes : List ℕ
 standard_bytes = codes "outinteger outtext outcr outchar ininteger inchar abs sign "
 
 -- the names that are known after these bytes, where a name has begun with some letters
-abbrev pub names_by : (space : Bool) → (byte : ℕ) → (word : List ℕ) → (names : List (List ℕ)) → (List ℕ → List (List ℕ) → List (List ℕ))
+abbrev pub names_by : (space : Bool) → (byte : ℕ) → (word : List ℕ) → (names : List (List ℕ))
+    → (List ℕ → List (List ℕ) → List (List ℕ))
     → List (List ℕ)
 names_by true byte word names go_on = go_on [] (known_by (place_of word names) word names)
 names_by false byte word names go_on = go_on (word ++ byte ∷ []) names

@@ -71,6 +71,7 @@ pub record Names (t : TablesModel) (known : ℕ) (names : List (List ℕ)) (node
   pub named : tree.name node ≡ name
 
 -- the name has this number, which is the next one where it had none
-pub record IsNumberOf (t : TablesModel) (tree : Tree) (known : ℕ) (names : List (List ℕ)) (name : List ℕ) (number : ℕ) : Type 0 where
+pub record IsNumberOf (t : TablesModel) (tree : Tree) (known : ℕ) (names : List (List ℕ)) (name : List ℕ)
+    (number : ℕ) : Type 0 where
   pub knows : Knows t tree known (known_by (place_of name names) name names)
   pub value : number ≡ number_by (place_of name names) names

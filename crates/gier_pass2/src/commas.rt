@@ -80,14 +80,20 @@ pub(crate) fn give(waiting: PendingComma, ready: &mut TokenBuffer)
 /// Takes the next symbol, gives what is known to be no part of a comma or is one, and answers what waits then.
 ///
 /// `plain` tells an identifier of letters only.
-pub(crate) fn feed(waiting: PendingComma, s: Symbol, plain: bool, ready: &mut TokenBuffer) -> PendingComma
+pub(crate) fn feed(
+    waiting: PendingComma,
+    s: Symbol,
+    plain: bool,
+    ready: &mut TokenBuffer,
+) -> PendingComma
     requires room { length (buffered ready.old) + length (symbols_of waiting) + 1 ≤ 5 }
     requires waiting { IsWaiting ready.old.bytes waiting }
     requires writable { IsWritable ready.old.bytes s }
     ensures bytes { ready.new.bytes ≡ ready.old.bytes }
     ensures waits { result ≡ waits_after waiting s plain }
     ensures given { buffered ready.new ≡ buffered ready.old ++ given_by waiting s plain }
-    ensures few { length (buffered ready.new) + length (symbols_of result) ≤ length (buffered ready.old) + length (symbols_of waiting) + 1 }
+    ensures few { length (buffered ready.new) + length (symbols_of result)
+        ≤ length (buffered ready.old) + length (symbols_of waiting) + 1 }
     ensures writable { IsWaiting ready.old.bytes result }
 {
     if let Some(more) = longer(waiting, s, plain) {

@@ -2,11 +2,11 @@
 #![tactic(auto)]
 
 mod commas;
-mod token_buffer;
 mod laws;
 mod names;
 mod pass;
 mod runs;
+mod token_buffer;
 mod writing;
 
 pub use laws::{law_characters, law_spelled};

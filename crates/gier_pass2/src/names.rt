@@ -11,6 +11,7 @@ ghost use Rattle.gier_pass2.specs.Spelled.{IsSign};
 ghost use Rattle.gier_pass2.specs.Standard.{Spells, standard_bytes};
 ghost use Rattle.gier_pass2.specs.Tree.{Tree, IsTree, IsChild, Knows, Names, IsNumberOf, child_added, nodes_of, sign_at, is_same};
 
+use gier_limits::STANDARD_NAMES;
 use gier_symbol::{Symbol, Tag};
 use gier_text::Tables;
 
@@ -32,9 +33,6 @@ const CHILD: u8 = 3;
 const NUMBER: u8 = 4;
 
 const WIDTH: u8 = 5;
-
-// Room for the nodes of the standard identifiers.
-const STANDARD_ROOM: u32 = 64;
 
 // The standard identifiers, each with a space behind it.
 const STANDARD: &[u8] = b"outinteger outtext outcr outchar ininteger inchar abs sign ";
@@ -108,7 +106,8 @@ pub(crate) fn step(tables: &mut Tables, node: u32, s: Symbol) -> u32
     ensures kept { KeepsNodes (tables_model tables.old) (tables_model tables.new) }
     ensures few { node_count (tables_model tables.new) ≤ node_count (tables_model tables.old) + 1 }
     ensures node { result < node_count (tables_model tables.new) }
-    ensures names { (tree : Tree) → (known : ℕ) → (names : List (List ℕ)) → Knows (tables_model tables.old) tree known names → IsSign s
+    ensures names { (tree : Tree) → (known : ℕ) → (names : List (List ℕ)) → Knows (tables_model tables.old) tree known names
+        → IsSign s
         → Names (tables_model tables.new) known names result (tree.name node ++ byte_of s ∷ []) }
 {
     let known = child(tables, node, s);
@@ -127,7 +126,8 @@ pub(crate) fn first(tables: &mut Tables, s: Symbol) -> u32
     ensures kept { KeepsNodes (tables_model tables.old) (tables_model tables.new) }
     ensures few { node_count (tables_model tables.new) ≤ node_count (tables_model tables.old) + 1 }
     ensures node { result < node_count (tables_model tables.new) }
-    ensures names { (tree : Tree) → (known : ℕ) → (names : List (List ℕ)) → Knows (tables_model tables.old) tree known names → IsSign s
+    ensures names { (tree : Tree) → (known : ℕ) → (names : List (List ℕ)) → Knows (tables_model tables.old) tree known names
+        → IsSign s
         → Names (tables_model tables.new) known names result (byte_of s ∷ []) }
 {
     step(tables, ROOT, s)
@@ -190,7 +190,7 @@ fn plant(tables: &mut Tables, bytes: u32)
     ensures faults { (tables_model tables.new).faults ≡ (tables_model tables.old).faults }
     ensures spells { Spells (tables_model tables.new) 0 0 standard_bytes }
 {
-    tables.list(WIDTH, bytes + STANDARD_ROOM);
+    tables.list(WIDTH, bytes + STANDARD_NAMES);
     tables.push(NODES, &[0, 0, 0, 0, 0]);
 }
 

@@ -15,9 +15,9 @@ ghost use Rattle.gier_pass2.specs.Spelled.{IsSpelled};
 ghost use Rattle.gier_pass2.specs.Invariant.{TablesInvariant, HasRun, PassInvariant, Relates, IsTextOne, Closes, symbols_pending};
 
 use crate::commas::{PendingComma, feed, give};
-use crate::token_buffer::TokenBuffer;
 use crate::names;
 use crate::runs::{Lexeme, begun, ended, goes_on, grown, is_none};
+use crate::token_buffer::TokenBuffer;
 use crate::writing::write_all;
 use gier_symbol::{Alphabet, Coded, Symbol};
 use gier_text::{Pass, PassStop, Tables, Text};

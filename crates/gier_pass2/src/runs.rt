@@ -129,7 +129,8 @@ pub(crate) fn begun(s: Symbol, position: u32, tables: &mut Tables) -> Lexeme
     ensures few { node_count (tables_model tables.new) ≤ node_count (tables_model tables.old) + 1 }
     ensures run { IsRun result (node_count (tables_model tables.new)) }
     ensures running { lexeme_symbols result ≡ begins s }
-    ensures reads { (known : ℕ) → (done : List RunOf) → IsReading (tables_model tables.old) known Nothing position done [] → IsSpelled s
+    ensures reads { (known : ℕ) → (done : List RunOf) → IsReading (tables_model tables.old) known Nothing position done []
+        → IsSpelled s
         → IsReading (tables_model tables.new) known result (position + 1) done (begun_by s) }
 {
     if is(Tag::Letter, s) {

@@ -29,7 +29,8 @@ pub(crate) fn write_all<T: Text>(
     ensures failed { IsErrOf result Drum → HasRisen (T.faults store.old) (T.faults store.new) }
     ensures memory { IsErrOf result Memory → IsTrue T.grows }
     ensures full { IsErrOf result Full → IsFull (T.view out.new store.new) }
-    ensures roomy { IsErrOf result Full → HasLess (T.view out.old store.old) ((T.view out.old store.old).count + length symbols.now) }
+    ensures roomy { IsErrOf result Full
+        → HasLess (T.view out.old store.old) ((T.view out.old store.old).count + length symbols.now) }
     ensures sound { SpoiltIf result ⊥ }
 {
     for symbol in symbols {

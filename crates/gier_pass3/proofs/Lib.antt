@@ -6,6 +6,8 @@ pub mod Bare
 pub mod Following
 pub mod Loads
 pub mod Released
+pub mod Entering
+pub mod Written
 pub mod GoingOn
 pub mod Runs
 pub mod Filling

@@ -3,7 +3,7 @@ use Rattle.std.proofs.Common.{◌≡◌, ◌≤◌, ◌<◌, ◌+◌, ◌++◌, 
 use Rattle.std.proofs.lemmas.Bool.{cases_eq}
 use Rattle.std.proofs.lemmas.List.{append_assoc}
 use Rattle.gier_text.specs.TablesModel.{TablesModel}
-use Rattle.gier_pass3.specs.Lists.{KeepsLists}
+use Rattle.gier_pass3.specs.Lists.{PreservesLists}
 use Rattle.gier_symbol.specs.declared.symbol.Symbol.{Symbol}
 use Rattle.gier_text.specs.Lists.{TableList}
 use Rattle.gier_text.specs.Outbox.{symbol_at, if_any, outbox_symbols_until}
@@ -22,11 +22,11 @@ still_fewer list at (suc n) lt = elim (cases_eq at n) [
 pub ready_more : (old loop new : List Symbol) (list : TableList) (at : ℕ) → loop ≡ old ++ outbox_symbols_until list at → new ≡ loop ++ if_any (symbol_at list at) → new ≡ old ++ outbox_symbols_until list (at + 1)
 ready_more old loop new list at before now = now ∙ ap (λ l. l ++ if_any (symbol_at list at)) before ∙ append_assoc old (outbox_symbols_until list at) (if_any (symbol_at list at)) ∙ ap (λ l. old ++ l) (sym (one_more list at))
 
-pub keeps_more : (t u v : TablesModel) → KeepsLists t u → KeepsLists u v → KeepsLists t v
+pub keeps_more : (t u v : TablesModel) → PreservesLists t u → PreservesLists u v → PreservesLists t v
 keeps_more t u v first second = record {
   lists = second.lists;
   stack_room = second.stack_room ∙ first.stack_room;
-  held_room = second.held_room ∙ first.held_room;
+  lookahead_room = second.lookahead_room ∙ first.lookahead_room;
   ready_room = second.ready_room ∙ first.ready_room;
   limit = second.limit ∙ first.limit;
   faults = second.faults ∙ first.faults;

@@ -6,9 +6,9 @@ use Rattle.gier_text.specs.TablesModel.{tables_model}
 use Rattle.gier_text.specs.Lists.{list_in}
 use Rattle.gier_text.proofs.ListExtents.{list_at-map}
 use Rattle.gier_text.proofs.OutboxSymbols.{listed_words}
-use Rattle.gier_pass3.specs.Lists.{HasLists, stack_in}
+use Rattle.gier_pass3.specs.Lists.{ListsInvariant, stack_in}
 
-pub stack_words : (t : Tables) → HasLists (tables_model t) → length (stack_in (tables_model t)).words ≡ (stack_in (tables_model t)).count
+pub stack_words : (t : Tables) → ListsInvariant (tables_model t) → length (stack_in (tables_model t)).words ≡ (stack_in (tables_model t)).count
 stack_words t lists =
     let list = stack_in (tables_model t) in
     let il : 0 < length t.lists.items = omega (arith, lists.lists, length-map t.lists.items (list_in t.words.words)) in

@@ -9,7 +9,7 @@ use Rattle.gier_text.specs.declared.fault.FaultKind.TheVariants.{Structure}
 use Rattle.gier_text.specs.TablesModel.{TablesModel}
 use Rattle.gier_tree.specs.Signs.{Sign, sign_tag}
 use Rattle.gier_tree.specs.Structure.{step, step_sign, first_refused, structure_fault}
-use Rattle.gier_pass3.specs.Grammar.{wanted_in, HasItems}
+use Rattle.gier_pass3.specs.Grammar.{wanted_in, StackInvariant}
 
 -- a symbol has a value only where it is an identifier, a number or a byte of a string
 abbrev pub has_value : (tag : ℕ) → Bool
@@ -41,7 +41,7 @@ AreFound (Some line) read faults = IsRefused read line faults
 -- no symbol was refused yet, and the pass wants what the grammar does
 pub record GoesOn (t : TablesModel) (read : List Symbol) : Type 0 where
   pub none : t.faults ≡ []
-  pub items : HasItems t
+  pub items : StackInvariant t
   pub same : (more : List Symbol) → structure_fault (read ++ more) ≡ first_refused more (wanted_in t)
 
 -- a symbol was refused, whatever follows
@@ -50,18 +50,18 @@ pub record HasFailed (t : TablesModel) (read : List Symbol) : Type 0 where
   pub refused : IsRefused read line t.faults
   pub same : (more : List Symbol) → structure_fault (read ++ more) ≡ Some line
 
-abbrev pub HasFound : (stopped : Bool) → TablesModel → (read : List Symbol) → Type 0
-HasFound false t read = GoesOn t read
-HasFound true t read = HasFailed t read
+abbrev pub FaultInvariant : (stopped : Bool) → TablesModel → (read : List Symbol) → Type 0
+FaultInvariant false t read = GoesOn t read
+FaultInvariant true t read = HasFailed t read
 
 -- before a symbol of this kind some items are nothing, and were passed
 pub record Passes (kind : Tag) (t u : TablesModel) : Type 0 where
-  pub items : HasItems u
+  pub items : StackInvariant u
   pub same : (sign : Sign) (line : ℕ) → sign_tag sign ≡ kind → step_sign sign line (wanted_in t) ≡ step_sign sign line (wanted_in u)
 
 -- the symbol was taken: the pass wants what the grammar does behind it
 pub record Takes (s : Symbol) (t u : TablesModel) : Type 0 where
-  pub items : HasItems u
+  pub items : StackInvariant u
   pub same : (more : List Symbol) → first_refused (s ∷ more) (wanted_in t) ≡ first_refused more (wanted_in u)
 
 -- the symbol was taken, or refused

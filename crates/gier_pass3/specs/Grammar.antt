@@ -3,143 +3,227 @@ use Rattle.std.specs.Prelude.{◌≡◌, ◌==◌, ◌+◌, ◌*◌, ◌/◌, �
 use Rattle.std.specs.List.{find}
 use Rattle.gier_tree.specs.Signs.{SBecomes, SColon, SElse, SLeftBracket, SRightParenthesis, SSemicolon, STextEnd, SThen, SUntil}
 use Rattle.gier_tree.specs.Trees.{most_further}
-use Rattle.gier_tree.specs.Wanted.{Item as GrammarItem, WantProgram, Want, MayDeclarations, WantStatement, WantStatements, WantType, WantAfterOwnType, WantName, MayNames, WantConstant, WantFurther, MayFixed, WantAfterType, WantExpr, WantPairs, MaySegments, MayExprs, MayFormals, MayValues, MaySpecifications, MayWord, WantAfterName, WantBranch, WantAfterBranchName, MayElse, MayStep, WantTurns, WantRight, WantAfterRight, WantAfterElement, WantSimple, MayNot, MaySign, WantNumber, WantPrimary, MayPart, WantSubscripts, WantActual, WantBytes, WantActuals, MayPower, MayTimes, MaySum, MayRelation, MayAnd, MayOr, MayImpl, MayEquiv}
+use Rattle.gier_tree.specs.Wanted.{Item as GrammarItem, WantProgram, Want, MayDeclarations, WantStatement, WantStatements}
+use Rattle.gier_tree.specs.Wanted.{WantType, WantAfterOwnType, WantName, MayNames, WantConstant, WantFurther, MayFixed}
+use Rattle.gier_tree.specs.Wanted.{WantAfterType, WantExpr, WantPairs, MaySegments, MayExprs, MayFormals, MayValues}
+use Rattle.gier_tree.specs.Wanted.{MaySpecifications, MayWord, WantAfterName, WantBranch, WantAfterBranchName, MayElse, MayStep}
+use Rattle.gier_tree.specs.Wanted.{WantTurns, WantRight, WantAfterRight, WantAfterElement, WantSimple, MayNot, MaySign}
+use Rattle.gier_tree.specs.Wanted.{WantNumber, WantPrimary, MayPart, WantSubscripts, WantActual, WantBytes, WantActuals}
+use Rattle.gier_tree.specs.Wanted.{MayPower, MayTimes, MaySum, MayRelation, MayAnd, MayOr, MayImpl, MayEquiv}
 use Rattle.gier_text.specs.TablesModel.{TablesModel}
-use Rattle.gier_pass3.specs.declared.item.Item.{Item}
-use Rattle.gier_pass3.specs.declared.item.Item.TheVariants.{OpenProgram as IOpenProgram, OpenArraySegment as IOpenArraySegment, OpenProcedureBody as IOpenProcedureBody, OpenControlledStatement as IOpenControlledStatement, OpenActual as IOpenActual, OpenSubscript as IOpenSubscript, OpenBound as IOpenBound, OpenSwitchElement as IOpenSwitchElement, OpenForElement as IOpenForElement, ShutProgram as IShutProgram, ShutBlock as IShutBlock, ShutCompound as IShutCompound, ShutTypeDeclaration as IShutTypeDeclaration, ShutArraySegment as IShutArraySegment, ShutSwitchDeclaration as IShutSwitchDeclaration, ShutProcedureDeclaration as IShutProcedureDeclaration, ShutProcedureBody as IShutProcedureBody, ShutForStatement as IShutForStatement, ShutControlledStatement as IShutControlledStatement, ShutConditionalStatement as IShutConditionalStatement, ShutActual as IShutActual, ShutSubscript as IShutSubscript, ShutBound as IShutBound, ShutSwitchElement as IShutSwitchElement, ShutForElement as IShutForElement, ShutGoTo as IShutGoTo, ShutConditionalExpression as IShutConditionalExpression, AfterOwnType as IAfterOwnType, Program as IProgram, ProgramColon as IProgramColon, TextEnd as ITextEnd, AfterBegin as IAfterBegin, BlockTail as IBlockTail, CompoundTail as ICompoundTail, FirstDeclared as IFirstDeclared, Declared as IDeclared, MoreDeclarations as IMoreDeclarations, OwnType as IOwnType, OwnName as IOwnName, MoreOwnNames as IMoreOwnNames, FixedBounds as IFixedBounds, FixedColon as IFixedColon, MorePairs as IMorePairs, MoreFixedSegments as IMoreFixedSegments, AfterType as IAfterType, Name as IName, MoreNames as IMoreNames, Bounds as IBounds, BoundColon as IBoundColon, BoundTail as IBoundTail, MoreSegments as IMoreSegments, SwitchBecomes as ISwitchBecomes, MoreSwitchElements as IMoreSwitchElements, MayFormals as IMayFormals, Formal as IFormal, FormalTail as IFormalTail, Heading as IHeading, MayValues as IMayValues, ValueName as IValueName, MoreValueNames as IMoreValueNames, Semicolon as ISemicolon, MoreSpecifications as IMoreSpecifications, MaySpecifier as IMaySpecifier, SpecifiedName as ISpecifiedName, MoreSpecifiedNames as IMoreSpecifiedNames, Statement as IStatement, AfterName as IAfterName, Branch as IBranch, AfterBranchName as IAfterBranchName, MayElse as IMayElse, ForVariable as IForVariable, ForBecomes as IForBecomes, MayStep as IMayStep, ForTail as IForTail, Until as IUntil, Becomes as IBecomes, Right as IRight, AfterRightName as IAfterRightName, AfterRightElement as IAfterRightElement, Expression as IExpression, Simple as ISimple, Then as IThen, Else as IElse, MayNot as IMayNot, MaySign as IMaySign, Number as INumber, Primary as IPrimary, MayPower as IMayPower, MayTimes as IMayTimes, MaySum as IMaySum, MayRelation as IMayRelation, MayAnd as IMayAnd, MayOr as IMayOr, MayImplication as IMayImplication, MayEquivalence as IMayEquivalence, MayPart as IMayPart, SubscriptTail as ISubscriptTail, Actual as IActual, StringRest as IStringRest, ActualTail as IActualTail, RightParenthesis as IRightParenthesis}
-use Rattle.gier_pass3.specs.declared.stack.Wanted.{Wanted}
-use Rattle.gier_pass3.specs.Items.{number_of}
+use Rattle.gier_grammar.specs.declared.grammar_symbol.GrammarSymbol.{GrammarSymbol}
+use Rattle.gier_grammar.specs.declared.grammar_symbol.GrammarSymbol.TheVariants.{OpenProgram as GOpenProgram}
+use Rattle.gier_grammar.specs.declared.grammar_symbol.GrammarSymbol.TheVariants.{OpenArraySegment as GOpenArraySegment}
+use Rattle.gier_grammar.specs.declared.grammar_symbol.GrammarSymbol.TheVariants.{OpenProcedureBody as GOpenProcedureBody}
+use Rattle.gier_grammar.specs.declared.grammar_symbol.GrammarSymbol.TheVariants.{OpenControlledStatement as GOpenControlledStatement}
+use Rattle.gier_grammar.specs.declared.grammar_symbol.GrammarSymbol.TheVariants.{OpenActual as GOpenActual}
+use Rattle.gier_grammar.specs.declared.grammar_symbol.GrammarSymbol.TheVariants.{OpenSubscript as GOpenSubscript}
+use Rattle.gier_grammar.specs.declared.grammar_symbol.GrammarSymbol.TheVariants.{OpenBound as GOpenBound}
+use Rattle.gier_grammar.specs.declared.grammar_symbol.GrammarSymbol.TheVariants.{OpenSwitchElement as GOpenSwitchElement}
+use Rattle.gier_grammar.specs.declared.grammar_symbol.GrammarSymbol.TheVariants.{OpenForElement as GOpenForElement}
+use Rattle.gier_grammar.specs.declared.grammar_symbol.GrammarSymbol.TheVariants.{ShutProgram as GShutProgram}
+use Rattle.gier_grammar.specs.declared.grammar_symbol.GrammarSymbol.TheVariants.{ShutBlock as GShutBlock}
+use Rattle.gier_grammar.specs.declared.grammar_symbol.GrammarSymbol.TheVariants.{ShutCompound as GShutCompound}
+use Rattle.gier_grammar.specs.declared.grammar_symbol.GrammarSymbol.TheVariants.{ShutTypeDeclaration as GShutTypeDeclaration}
+use Rattle.gier_grammar.specs.declared.grammar_symbol.GrammarSymbol.TheVariants.{ShutArraySegment as GShutArraySegment}
+use Rattle.gier_grammar.specs.declared.grammar_symbol.GrammarSymbol.TheVariants.{ShutSwitchDeclaration as GShutSwitchDeclaration}
+use Rattle.gier_grammar.specs.declared.grammar_symbol.GrammarSymbol.TheVariants.{ShutProcedureDeclaration as GShutProcedureDeclaration}
+use Rattle.gier_grammar.specs.declared.grammar_symbol.GrammarSymbol.TheVariants.{ShutProcedureBody as GShutProcedureBody}
+use Rattle.gier_grammar.specs.declared.grammar_symbol.GrammarSymbol.TheVariants.{ShutForStatement as GShutForStatement}
+use Rattle.gier_grammar.specs.declared.grammar_symbol.GrammarSymbol.TheVariants.{ShutControlledStatement as GShutControlledStatement}
+use Rattle.gier_grammar.specs.declared.grammar_symbol.GrammarSymbol.TheVariants.{ShutConditionalStatement as GShutConditionalStatement}
+use Rattle.gier_grammar.specs.declared.grammar_symbol.GrammarSymbol.TheVariants.{ShutActual as GShutActual}
+use Rattle.gier_grammar.specs.declared.grammar_symbol.GrammarSymbol.TheVariants.{ShutSubscript as GShutSubscript}
+use Rattle.gier_grammar.specs.declared.grammar_symbol.GrammarSymbol.TheVariants.{ShutBound as GShutBound}
+use Rattle.gier_grammar.specs.declared.grammar_symbol.GrammarSymbol.TheVariants.{ShutSwitchElement as GShutSwitchElement}
+use Rattle.gier_grammar.specs.declared.grammar_symbol.GrammarSymbol.TheVariants.{ShutForElement as GShutForElement}
+use Rattle.gier_grammar.specs.declared.grammar_symbol.GrammarSymbol.TheVariants.{ShutGoTo as GShutGoTo}
+use Rattle.gier_grammar.specs.declared.grammar_symbol.GrammarSymbol.TheVariants.{ShutConditionalExpression as GShutConditionalExpression}
+use Rattle.gier_grammar.specs.declared.grammar_symbol.GrammarSymbol.TheVariants.{AfterOwnType as GAfterOwnType}
+use Rattle.gier_grammar.specs.declared.grammar_symbol.GrammarSymbol.TheVariants.{Program as GProgram}
+use Rattle.gier_grammar.specs.declared.grammar_symbol.GrammarSymbol.TheVariants.{ProgramColon as GProgramColon}
+use Rattle.gier_grammar.specs.declared.grammar_symbol.GrammarSymbol.TheVariants.{TextEnd as GTextEnd, AfterBegin as GAfterBegin}
+use Rattle.gier_grammar.specs.declared.grammar_symbol.GrammarSymbol.TheVariants.{BlockTail as GBlockTail}
+use Rattle.gier_grammar.specs.declared.grammar_symbol.GrammarSymbol.TheVariants.{CompoundTail as GCompoundTail}
+use Rattle.gier_grammar.specs.declared.grammar_symbol.GrammarSymbol.TheVariants.{FirstDeclared as GFirstDeclared}
+use Rattle.gier_grammar.specs.declared.grammar_symbol.GrammarSymbol.TheVariants.{Declared as GDeclared}
+use Rattle.gier_grammar.specs.declared.grammar_symbol.GrammarSymbol.TheVariants.{MoreDeclarations as GMoreDeclarations}
+use Rattle.gier_grammar.specs.declared.grammar_symbol.GrammarSymbol.TheVariants.{OwnType as GOwnType, OwnName as GOwnName}
+use Rattle.gier_grammar.specs.declared.grammar_symbol.GrammarSymbol.TheVariants.{MoreOwnNames as GMoreOwnNames}
+use Rattle.gier_grammar.specs.declared.grammar_symbol.GrammarSymbol.TheVariants.{FixedBounds as GFixedBounds}
+use Rattle.gier_grammar.specs.declared.grammar_symbol.GrammarSymbol.TheVariants.{FixedColon as GFixedColon}
+use Rattle.gier_grammar.specs.declared.grammar_symbol.GrammarSymbol.TheVariants.{MorePairs as GMorePairs}
+use Rattle.gier_grammar.specs.declared.grammar_symbol.GrammarSymbol.TheVariants.{MoreFixedSegments as GMoreFixedSegments}
+use Rattle.gier_grammar.specs.declared.grammar_symbol.GrammarSymbol.TheVariants.{AfterType as GAfterType, Name as GName}
+use Rattle.gier_grammar.specs.declared.grammar_symbol.GrammarSymbol.TheVariants.{MoreNames as GMoreNames, Bounds as GBounds}
+use Rattle.gier_grammar.specs.declared.grammar_symbol.GrammarSymbol.TheVariants.{BoundColon as GBoundColon}
+use Rattle.gier_grammar.specs.declared.grammar_symbol.GrammarSymbol.TheVariants.{BoundTail as GBoundTail}
+use Rattle.gier_grammar.specs.declared.grammar_symbol.GrammarSymbol.TheVariants.{MoreSegments as GMoreSegments}
+use Rattle.gier_grammar.specs.declared.grammar_symbol.GrammarSymbol.TheVariants.{SwitchBecomes as GSwitchBecomes}
+use Rattle.gier_grammar.specs.declared.grammar_symbol.GrammarSymbol.TheVariants.{MoreSwitchElements as GMoreSwitchElements}
+use Rattle.gier_grammar.specs.declared.grammar_symbol.GrammarSymbol.TheVariants.{MayFormals as GMayFormals, Formal as GFormal}
+use Rattle.gier_grammar.specs.declared.grammar_symbol.GrammarSymbol.TheVariants.{FormalTail as GFormalTail, Heading as GHeading}
+use Rattle.gier_grammar.specs.declared.grammar_symbol.GrammarSymbol.TheVariants.{MayValues as GMayValues}
+use Rattle.gier_grammar.specs.declared.grammar_symbol.GrammarSymbol.TheVariants.{ValueName as GValueName}
+use Rattle.gier_grammar.specs.declared.grammar_symbol.GrammarSymbol.TheVariants.{MoreValueNames as GMoreValueNames}
+use Rattle.gier_grammar.specs.declared.grammar_symbol.GrammarSymbol.TheVariants.{Semicolon as GSemicolon}
+use Rattle.gier_grammar.specs.declared.grammar_symbol.GrammarSymbol.TheVariants.{MoreSpecifications as GMoreSpecifications}
+use Rattle.gier_grammar.specs.declared.grammar_symbol.GrammarSymbol.TheVariants.{MaySpecifier as GMaySpecifier}
+use Rattle.gier_grammar.specs.declared.grammar_symbol.GrammarSymbol.TheVariants.{SpecifiedName as GSpecifiedName}
+use Rattle.gier_grammar.specs.declared.grammar_symbol.GrammarSymbol.TheVariants.{MoreSpecifiedNames as GMoreSpecifiedNames}
+use Rattle.gier_grammar.specs.declared.grammar_symbol.GrammarSymbol.TheVariants.{Statement as GStatement}
+use Rattle.gier_grammar.specs.declared.grammar_symbol.GrammarSymbol.TheVariants.{AfterName as GAfterName, Branch as GBranch}
+use Rattle.gier_grammar.specs.declared.grammar_symbol.GrammarSymbol.TheVariants.{AfterBranchName as GAfterBranchName}
+use Rattle.gier_grammar.specs.declared.grammar_symbol.GrammarSymbol.TheVariants.{MayElse as GMayElse}
+use Rattle.gier_grammar.specs.declared.grammar_symbol.GrammarSymbol.TheVariants.{ForVariable as GForVariable}
+use Rattle.gier_grammar.specs.declared.grammar_symbol.GrammarSymbol.TheVariants.{ForBecomes as GForBecomes, MayStep as GMayStep}
+use Rattle.gier_grammar.specs.declared.grammar_symbol.GrammarSymbol.TheVariants.{ForTail as GForTail, Until as GUntil}
+use Rattle.gier_grammar.specs.declared.grammar_symbol.GrammarSymbol.TheVariants.{Becomes as GBecomes, Right as GRight}
+use Rattle.gier_grammar.specs.declared.grammar_symbol.GrammarSymbol.TheVariants.{AfterRightName as GAfterRightName}
+use Rattle.gier_grammar.specs.declared.grammar_symbol.GrammarSymbol.TheVariants.{AfterRightElement as GAfterRightElement}
+use Rattle.gier_grammar.specs.declared.grammar_symbol.GrammarSymbol.TheVariants.{Expression as GExpression, Simple as GSimple}
+use Rattle.gier_grammar.specs.declared.grammar_symbol.GrammarSymbol.TheVariants.{Then as GThen, Else as GElse}
+use Rattle.gier_grammar.specs.declared.grammar_symbol.GrammarSymbol.TheVariants.{MayNot as GMayNot, MaySign as GMaySign}
+use Rattle.gier_grammar.specs.declared.grammar_symbol.GrammarSymbol.TheVariants.{Number as GNumber, Primary as GPrimary}
+use Rattle.gier_grammar.specs.declared.grammar_symbol.GrammarSymbol.TheVariants.{MayPower as GMayPower, MayTimes as GMayTimes}
+use Rattle.gier_grammar.specs.declared.grammar_symbol.GrammarSymbol.TheVariants.{MaySum as GMaySum, MayRelation as GMayRelation}
+use Rattle.gier_grammar.specs.declared.grammar_symbol.GrammarSymbol.TheVariants.{MayAnd as GMayAnd, MayOr as GMayOr}
+use Rattle.gier_grammar.specs.declared.grammar_symbol.GrammarSymbol.TheVariants.{MayImplication as GMayImplication}
+use Rattle.gier_grammar.specs.declared.grammar_symbol.GrammarSymbol.TheVariants.{MayEquivalence as GMayEquivalence}
+use Rattle.gier_grammar.specs.declared.grammar_symbol.GrammarSymbol.TheVariants.{MayPart as GMayPart}
+use Rattle.gier_grammar.specs.declared.grammar_symbol.GrammarSymbol.TheVariants.{SubscriptTail as GSubscriptTail}
+use Rattle.gier_grammar.specs.declared.grammar_symbol.GrammarSymbol.TheVariants.{Actual as GActual, StringRest as GStringRest}
+use Rattle.gier_grammar.specs.declared.grammar_symbol.GrammarSymbol.TheVariants.{ActualTail as GActualTail}
+use Rattle.gier_grammar.specs.declared.grammar_symbol.GrammarSymbol.TheVariants.{RightParenthesis as GRightParenthesis}
+use Rattle.gier_grammar.specs.declared.stack_entry.StackEntry.{StackEntry}
+use Rattle.gier_grammar.specs.GrammarSymbols.{number_of}
+use Rattle.gier_grammar.specs.StackEntries.{beside}
 use Rattle.gier_pass3.specs.Lists.{stack_in}
 
--- the items of the grammar that an item stands for, where so many more pairs of constants are allowed; an item that writes a mark wants no
--- symbol, and stands for none
-abbrev pub meant_by : Item → (left : ℕ) → List GrammarItem
-meant_by IProgram left = WantProgram ∷ []
-meant_by IProgramColon left = Want SColon ∷ []
-meant_by ITextEnd left = Want STextEnd ∷ []
-meant_by IAfterBegin left = MayDeclarations ∷ WantStatement ∷ WantStatements ∷ []
-meant_by IBlockTail left = WantStatements ∷ []
-meant_by ICompoundTail left = WantStatements ∷ []
-meant_by IFirstDeclared left = Want SSemicolon ∷ MayDeclarations ∷ WantStatement ∷ WantStatements ∷ []
-meant_by IDeclared left = Want SSemicolon ∷ MayDeclarations ∷ []
-meant_by IMoreDeclarations left = MayDeclarations ∷ []
-meant_by IOwnType left = WantType ∷ WantAfterOwnType ∷ []
-meant_by IAfterOwnType left = WantAfterOwnType ∷ []
-meant_by IOwnName left = WantName ∷ []
-meant_by IMoreOwnNames left = MayNames ∷ []
-meant_by IFixedBounds left = Want SLeftBracket ∷ WantConstant ∷ Want SColon ∷ WantConstant ∷ WantFurther most_further ∷ []
-meant_by IFixedColon left = Want SColon ∷ WantConstant ∷ []
-meant_by IMorePairs left = WantFurther left ∷ []
-meant_by IMoreFixedSegments left = MayFixed ∷ []
-meant_by IAfterType left = WantAfterType ∷ []
-meant_by IName left = WantName ∷ []
-meant_by IMoreNames left = MayNames ∷ []
-meant_by IBounds left = Want SLeftBracket ∷ WantExpr ∷ Want SColon ∷ WantExpr ∷ WantPairs ∷ []
-meant_by IBoundColon left = Want SColon ∷ WantExpr ∷ []
-meant_by IBoundTail left = WantPairs ∷ []
-meant_by IMoreSegments left = MaySegments ∷ []
-meant_by ISwitchBecomes left = Want SBecomes ∷ WantExpr ∷ MayExprs ∷ []
-meant_by IMoreSwitchElements left = MayExprs ∷ []
-meant_by IMayFormals left = MayFormals ∷ []
-meant_by IFormal left = WantName ∷ []
-meant_by IFormalTail left = MayNames ∷ Want SRightParenthesis ∷ []
-meant_by IHeading left = Want SSemicolon ∷ MayValues ∷ MaySpecifications ∷ WantStatement ∷ []
-meant_by IMayValues left = MayValues ∷ []
-meant_by IValueName left = WantName ∷ []
-meant_by IMoreValueNames left = MayNames ∷ []
-meant_by ISemicolon left = Want SSemicolon ∷ []
-meant_by IMoreSpecifications left = MaySpecifications ∷ []
-meant_by IMaySpecifier left = MayWord ∷ []
-meant_by ISpecifiedName left = WantName ∷ []
-meant_by IMoreSpecifiedNames left = MayNames ∷ []
-meant_by IStatement left = WantStatement ∷ []
-meant_by IAfterName left = WantAfterName ∷ []
-meant_by IBranch left = WantBranch ∷ []
-meant_by IAfterBranchName left = WantAfterBranchName ∷ []
-meant_by IMayElse left = MayElse ∷ []
-meant_by IForVariable left = WantName ∷ []
-meant_by IForBecomes left = Want SBecomes ∷ WantExpr ∷ MayStep ∷ WantTurns ∷ WantStatement ∷ []
-meant_by IMayStep left = MayStep ∷ []
-meant_by IForTail left = WantTurns ∷ WantStatement ∷ []
-meant_by IUntil left = Want SUntil ∷ []
-meant_by IBecomes left = Want SBecomes ∷ WantRight ∷ []
-meant_by IRight left = WantRight ∷ []
-meant_by IAfterRightName left = WantAfterRight ∷ []
-meant_by IAfterRightElement left = WantAfterElement ∷ []
-meant_by IExpression left = WantExpr ∷ []
-meant_by ISimple left = WantSimple ∷ []
-meant_by IThen left = Want SThen ∷ []
-meant_by IElse left = Want SElse ∷ []
-meant_by IMayNot left = MayNot ∷ []
-meant_by IMaySign left = MaySign ∷ []
-meant_by INumber left = WantNumber ∷ []
-meant_by IPrimary left = WantPrimary ∷ []
-meant_by IMayPart left = MayPart ∷ []
-meant_by ISubscriptTail left = WantSubscripts ∷ []
-meant_by IActual left = WantActual ∷ []
-meant_by IStringRest left = WantBytes ∷ []
-meant_by IActualTail left = WantActuals ∷ []
-meant_by IRightParenthesis left = Want SRightParenthesis ∷ []
-meant_by IMayPower left = MayPower ∷ []
-meant_by IMayTimes left = MayTimes ∷ []
-meant_by IMaySum left = MaySum ∷ []
-meant_by IMayRelation left = MayRelation ∷ []
-meant_by IMayAnd left = MayAnd ∷ []
-meant_by IMayOr left = MayOr ∷ []
-meant_by IMayImplication left = MayImpl ∷ []
-meant_by IMayEquivalence left = MayEquiv ∷ []
+-- the items of the grammar that an item stands for, where so many more pairs of constants are allowed; an item that writes a mark
+-- wants no symbol, and stands for none
+abbrev pub meant_by : GrammarSymbol → (left : ℕ) → List GrammarItem
+meant_by GProgram left = WantProgram ∷ []
+meant_by GProgramColon left = Want SColon ∷ []
+meant_by GTextEnd left = Want STextEnd ∷ []
+meant_by GAfterBegin left = MayDeclarations ∷ WantStatement ∷ WantStatements ∷ []
+meant_by GBlockTail left = WantStatements ∷ []
+meant_by GCompoundTail left = WantStatements ∷ []
+meant_by GFirstDeclared left = Want SSemicolon ∷ MayDeclarations ∷ WantStatement ∷ WantStatements ∷ []
+meant_by GDeclared left = Want SSemicolon ∷ MayDeclarations ∷ []
+meant_by GMoreDeclarations left = MayDeclarations ∷ []
+meant_by GOwnType left = WantType ∷ WantAfterOwnType ∷ []
+meant_by GAfterOwnType left = WantAfterOwnType ∷ []
+meant_by GOwnName left = WantName ∷ []
+meant_by GMoreOwnNames left = MayNames ∷ []
+meant_by GFixedBounds left = Want SLeftBracket ∷ WantConstant ∷ Want SColon ∷ WantConstant ∷ WantFurther most_further ∷ []
+meant_by GFixedColon left = Want SColon ∷ WantConstant ∷ []
+meant_by GMorePairs left = WantFurther left ∷ []
+meant_by GMoreFixedSegments left = MayFixed ∷ []
+meant_by GAfterType left = WantAfterType ∷ []
+meant_by GName left = WantName ∷ []
+meant_by GMoreNames left = MayNames ∷ []
+meant_by GBounds left = Want SLeftBracket ∷ WantExpr ∷ Want SColon ∷ WantExpr ∷ WantPairs ∷ []
+meant_by GBoundColon left = Want SColon ∷ WantExpr ∷ []
+meant_by GBoundTail left = WantPairs ∷ []
+meant_by GMoreSegments left = MaySegments ∷ []
+meant_by GSwitchBecomes left = Want SBecomes ∷ WantExpr ∷ MayExprs ∷ []
+meant_by GMoreSwitchElements left = MayExprs ∷ []
+meant_by GMayFormals left = MayFormals ∷ []
+meant_by GFormal left = WantName ∷ []
+meant_by GFormalTail left = MayNames ∷ Want SRightParenthesis ∷ []
+meant_by GHeading left = Want SSemicolon ∷ MayValues ∷ MaySpecifications ∷ WantStatement ∷ []
+meant_by GMayValues left = MayValues ∷ []
+meant_by GValueName left = WantName ∷ []
+meant_by GMoreValueNames left = MayNames ∷ []
+meant_by GSemicolon left = Want SSemicolon ∷ []
+meant_by GMoreSpecifications left = MaySpecifications ∷ []
+meant_by GMaySpecifier left = MayWord ∷ []
+meant_by GSpecifiedName left = WantName ∷ []
+meant_by GMoreSpecifiedNames left = MayNames ∷ []
+meant_by GStatement left = WantStatement ∷ []
+meant_by GAfterName left = WantAfterName ∷ []
+meant_by GBranch left = WantBranch ∷ []
+meant_by GAfterBranchName left = WantAfterBranchName ∷ []
+meant_by GMayElse left = MayElse ∷ []
+meant_by GForVariable left = WantName ∷ []
+meant_by GForBecomes left = Want SBecomes ∷ WantExpr ∷ MayStep ∷ WantTurns ∷ WantStatement ∷ []
+meant_by GMayStep left = MayStep ∷ []
+meant_by GForTail left = WantTurns ∷ WantStatement ∷ []
+meant_by GUntil left = Want SUntil ∷ []
+meant_by GBecomes left = Want SBecomes ∷ WantRight ∷ []
+meant_by GRight left = WantRight ∷ []
+meant_by GAfterRightName left = WantAfterRight ∷ []
+meant_by GAfterRightElement left = WantAfterElement ∷ []
+meant_by GExpression left = WantExpr ∷ []
+meant_by GSimple left = WantSimple ∷ []
+meant_by GThen left = Want SThen ∷ []
+meant_by GElse left = Want SElse ∷ []
+meant_by GMayNot left = MayNot ∷ []
+meant_by GMaySign left = MaySign ∷ []
+meant_by GNumber left = WantNumber ∷ []
+meant_by GPrimary left = WantPrimary ∷ []
+meant_by GMayPart left = MayPart ∷ []
+meant_by GSubscriptTail left = WantSubscripts ∷ []
+meant_by GActual left = WantActual ∷ []
+meant_by GStringRest left = WantBytes ∷ []
+meant_by GActualTail left = WantActuals ∷ []
+meant_by GRightParenthesis left = Want SRightParenthesis ∷ []
+meant_by GMayPower left = MayPower ∷ []
+meant_by GMayTimes left = MayTimes ∷ []
+meant_by GMaySum left = MaySum ∷ []
+meant_by GMayRelation left = MayRelation ∷ []
+meant_by GMayAnd left = MayAnd ∷ []
+meant_by GMayOr left = MayOr ∷ []
+meant_by GMayImplication left = MayImpl ∷ []
+meant_by GMayEquivalence left = MayEquiv ∷ []
 meant_by _ left = []
 
--- what is wanted where an item stands above these; in the grammar a program has the end of the text with it, so that there is nothing
--- below it
-abbrev pub wanted_above : Item → (left : ℕ) → (below : List GrammarItem) → List GrammarItem
-wanted_above IProgram left below = WantProgram ∷ []
+-- what is wanted where an item stands above these; in the grammar a program has the end of the text with it, so that there is
+-- nothing below it
+abbrev pub wanted_above : GrammarSymbol → (left : ℕ) → (below : List GrammarItem) → List GrammarItem
+wanted_above GProgram left below = WantProgram ∷ []
 wanted_above item left below = meant_by item left ++ below
 
 -- the same of several items
-abbrev pub all_above : List Item → (left : ℕ) → (below : List GrammarItem) → List GrammarItem
+abbrev pub all_above : List GrammarSymbol → (left : ℕ) → (below : List GrammarItem) → List GrammarItem
 all_above [] left below = below
 all_above (item ∷ items) left below = wanted_above item left (all_above items left below)
 
 -- below a program the end of the text is wanted
-abbrev pub IsAbove : Item → (below : List GrammarItem) → Type 0
-IsAbove IProgram below = below ≡ Want STextEnd ∷ []
+abbrev pub IsAbove : GrammarSymbol → (below : List GrammarItem) → Type 0
+IsAbove GProgram below = below ≡ Want STextEnd ∷ []
 IsAbove _ below = Unit {0}
 
-abbrev pub AreAbove : List Item → (left : ℕ) → (below : List GrammarItem) → Type 0
+abbrev pub AreAbove : List GrammarSymbol → (left : ℕ) → (below : List GrammarItem) → Type 0
 AreAbove [] left below = Unit {0}
 AreAbove (item ∷ items) left below = IsAbove item (all_above items left below) × AreAbove items left below
 
-abbrev pub all_items : List Item
+abbrev pub all_items : List GrammarSymbol
 all_items =
-    IOpenProgram ∷ IOpenArraySegment ∷ IOpenProcedureBody ∷ IOpenControlledStatement ∷ IOpenActual ∷ IOpenSubscript ∷ IOpenBound ∷
-    IOpenSwitchElement ∷ IOpenForElement ∷ IShutProgram ∷ IShutBlock ∷ IShutCompound ∷ IShutTypeDeclaration ∷ IShutArraySegment ∷
-    IShutSwitchDeclaration ∷ IShutProcedureDeclaration ∷ IShutProcedureBody ∷ IShutForStatement ∷ IShutControlledStatement ∷
-    IShutConditionalStatement ∷ IShutActual ∷ IShutSubscript ∷ IShutBound ∷ IShutSwitchElement ∷ IShutForElement ∷ IShutGoTo ∷
-    IShutConditionalExpression ∷ IAfterOwnType ∷ IProgram ∷ IProgramColon ∷ ITextEnd ∷ IAfterBegin ∷ IBlockTail ∷ ICompoundTail ∷
-    IFirstDeclared ∷ IDeclared ∷ IMoreDeclarations ∷ IOwnType ∷ IOwnName ∷ IMoreOwnNames ∷ IFixedBounds ∷ IFixedColon ∷ IMorePairs ∷
-    IMoreFixedSegments ∷ IAfterType ∷ IName ∷ IMoreNames ∷ IBounds ∷ IBoundColon ∷ IBoundTail ∷ IMoreSegments ∷ ISwitchBecomes ∷
-    IMoreSwitchElements ∷ IMayFormals ∷ IFormal ∷ IFormalTail ∷ IHeading ∷ IMayValues ∷ IValueName ∷ IMoreValueNames ∷ ISemicolon ∷
-    IMoreSpecifications ∷ IMaySpecifier ∷ ISpecifiedName ∷ IMoreSpecifiedNames ∷ IStatement ∷ IAfterName ∷ IBranch ∷
-    IAfterBranchName ∷ IMayElse ∷ IForVariable ∷ IForBecomes ∷ IMayStep ∷ IForTail ∷ IUntil ∷ IBecomes ∷ IRight ∷ IAfterRightName ∷
-    IAfterRightElement ∷ IExpression ∷ ISimple ∷ IThen ∷ IElse ∷ IMayNot ∷ IMaySign ∷ INumber ∷ IPrimary ∷ IMayPower ∷ IMayTimes ∷
-    IMaySum ∷ IMayRelation ∷ IMayAnd ∷ IMayOr ∷ IMayImplication ∷ IMayEquivalence ∷ IMayPart ∷ ISubscriptTail ∷ IActual ∷
-    IStringRest ∷ IActualTail ∷ IRightParenthesis ∷ []
+    GOpenProgram ∷ GOpenArraySegment ∷ GOpenProcedureBody ∷ GOpenControlledStatement ∷ GOpenActual ∷ GOpenSubscript ∷ GOpenBound ∷
+    GOpenSwitchElement ∷ GOpenForElement ∷ GShutProgram ∷ GShutBlock ∷ GShutCompound ∷ GShutTypeDeclaration ∷ GShutArraySegment ∷
+    GShutSwitchDeclaration ∷ GShutProcedureDeclaration ∷ GShutProcedureBody ∷ GShutForStatement ∷ GShutControlledStatement ∷
+    GShutConditionalStatement ∷ GShutActual ∷ GShutSubscript ∷ GShutBound ∷ GShutSwitchElement ∷ GShutForElement ∷ GShutGoTo ∷
+    GShutConditionalExpression ∷ GAfterOwnType ∷ GProgram ∷ GProgramColon ∷ GTextEnd ∷ GAfterBegin ∷ GBlockTail ∷ GCompoundTail ∷
+    GFirstDeclared ∷ GDeclared ∷ GMoreDeclarations ∷ GOwnType ∷ GOwnName ∷ GMoreOwnNames ∷ GFixedBounds ∷ GFixedColon ∷ GMorePairs ∷
+    GMoreFixedSegments ∷ GAfterType ∷ GName ∷ GMoreNames ∷ GBounds ∷ GBoundColon ∷ GBoundTail ∷ GMoreSegments ∷ GSwitchBecomes ∷
+    GMoreSwitchElements ∷ GMayFormals ∷ GFormal ∷ GFormalTail ∷ GHeading ∷ GMayValues ∷ GValueName ∷ GMoreValueNames ∷ GSemicolon ∷
+    GMoreSpecifications ∷ GMaySpecifier ∷ GSpecifiedName ∷ GMoreSpecifiedNames ∷ GStatement ∷ GAfterName ∷ GBranch ∷
+    GAfterBranchName ∷ GMayElse ∷ GForVariable ∷ GForBecomes ∷ GMayStep ∷ GForTail ∷ GUntil ∷ GBecomes ∷ GRight ∷ GAfterRightName ∷
+    GAfterRightElement ∷ GExpression ∷ GSimple ∷ GThen ∷ GElse ∷ GMayNot ∷ GMaySign ∷ GNumber ∷ GPrimary ∷ GMayPower ∷ GMayTimes ∷
+    GMaySum ∷ GMayRelation ∷ GMayAnd ∷ GMayOr ∷ GMayImplication ∷ GMayEquivalence ∷ GMayPart ∷ GSubscriptTail ∷ GActual ∷
+    GStringRest ∷ GActualTail ∷ GRightParenthesis ∷ []
 
 -- the item with this number
-unfoldable pub item_at : (number : ℕ) → Option Item
+unfoldable pub item_at : (number : ℕ) → Option GrammarSymbol
 item_at number = find (λ item. number_of item == number) all_items
 
--- how many pairs of constants may follow is told beside one item only
-abbrev pub beside : Item → (left : ℕ) → ℕ
-beside IMorePairs left = left
-beside _ left = 0
-
 -- the word of an item on the stack
-abbrev pub word_of : Item → (left : ℕ) → ℕ
+abbrev pub word_of : GrammarSymbol → (left : ℕ) → ℕ
 word_of item left = number_of item + beside item left * 256
 
-abbrev pub read_by : Option Item → (left : ℕ) → (below : List GrammarItem) → List GrammarItem
+abbrev pub read_by : Option GrammarSymbol → (left : ℕ) → (below : List GrammarItem) → List GrammarItem
 read_by None left below = below
 read_by (Some item) left below = wanted_above item left below
 
@@ -152,7 +236,7 @@ read_words [] below = below
 read_words (word ∷ words) below = read_words words (read_word word below)
 
 -- each word is an item's, and each program has the end of the text below it
-abbrev pub IsItem : Option Item → (below : List GrammarItem) → Type 0
+abbrev pub IsItem : Option GrammarSymbol → (below : List GrammarItem) → Type 0
 IsItem None below = ⊥
 IsItem (Some item) below = IsAbove item below
 
@@ -164,10 +248,11 @@ AreItems (word ∷ words) below = IsItem (item_at (word % 256)) below × AreItem
 abbrev pub wanted_in : TablesModel → List GrammarItem
 wanted_in t = read_words (stack_in t).words []
 
-abbrev pub HasItems : TablesModel → Type 0
-HasItems t = AreItems (stack_in t).words []
+abbrev pub StackInvariant : TablesModel → Type 0
+StackInvariant t = AreItems (stack_in t).words []
 
 -- the next item was taken away, or there was none
-abbrev pub Pops : (before : List GrammarItem) → Option Wanted → TablesModel → Type 0
+abbrev pub Pops : (before : List GrammarItem) → Option StackEntry → TablesModel → Type 0
 Pops before None t = before ≡ []
-Pops before (Some next) t = (before ≡ wanted_above next.item next.left (wanted_in t)) × IsAbove next.item (wanted_in t) × HasItems t
+Pops before (Some next) t = (before ≡ wanted_above next.symbol next.left (wanted_in t)) × IsAbove next.symbol (wanted_in t)
+    × StackInvariant t

@@ -1,9 +1,7 @@
-pub mod Items
-pub mod Rules
-pub mod Table
-pub mod Paying
 pub mod Lists
+pub mod Costs
 pub mod Grammar
+pub mod Refinement
 pub mod Found
 pub mod Completion
-pub mod Standing
+pub mod Invariant

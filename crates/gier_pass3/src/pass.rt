@@ -1,23 +1,33 @@
 // The pass: what it keeps, and what it does with a symbol.
-ghost use Rattle.std.specs.Prelude.{◌≡◌, ◌≤◌, ◌<◌, ◌+◌, ◌*◌, ◌^◌, [], ℕ, length, All, IsTrue, true, false, not, Some};
+ghost use Rattle.std.specs.Prelude.{◌≡◌, ◌≤◌, ◌<◌, ◌+◌, ◌*◌, ◌^◌, ◌∷◌, suc, [], ℕ, length, All, IsTrue, true, false, not, Some};
 ghost use Rattle.gier_symbol.specs.Symbols.{IsSymbol};
 ghost use Rattle.gier_symbol.specs.Tags.{number_of};
 ghost use Rattle.gier_symbol.specs.Texts.{stands_in};
 ghost use Rattle.gier_text.specs.Potential.{potential_of, is_numbered};
 ghost use Rattle.gier_text.specs.TablesModel.{tables_model, fresh};
-ghost use Rattle.gier_pass3.specs.Items.{credit_of, mark_of, mark_symbol, line_by, opened_by};
+ghost use Rattle.gier_grammar.specs.GrammarSymbols.{credit_of, mark_of};
+ghost use Rattle.gier_text3.specs.Marks.{mark_symbol, line_by, opened_by};
 ghost use Rattle.gier_tree.specs.Signs.{sign_of, sign_tag};
-ghost use Rattle.gier_pass3.specs.Rules.{cost_of, costs, left_after, price, tag_of, wants_of};
-ghost use Rattle.gier_pass3.specs.Lists.{depth, ready_by, stack_in};
-ghost use Rattle.gier_pass3.specs.Grammar.{AreAbove, HasItems, all_above, wanted_in};
-ghost use Rattle.gier_pass3.specs.Standing.{IsFit, Holds, Moves, Meets, load, IsReady, Steps, Stands, Relates, IsTextTwo, HasRoom, Opens};
+ghost use Rattle.gier_pass3.specs.Costs.{cost_of, costs, price};
+ghost use Rattle.gier_grammar.specs.Productions.{left_after, tag_of, right_side_of};
+ghost use Rattle.gier_pass3.specs.Lists.{depth, lookahead_by, ready_by, stack_in};
+ghost use Rattle.gier_pass3.specs.Refinement.{RefinesWriting, RefinesEpsilon, RefinesMark, RefinesExpand, RefinesMeet};
+ghost use Rattle.gier_pass3.specs.Refinement.{writer_state_in};
+ghost use Rattle.gier_text3.specs.PurePass.{actions_on, action_on, as_role, first_line, add_label, name_number};
+ghost use Rattle.gier_text3.specs.PurePass.{write_lookahead, with_owns};
+ghost use Rattle.gier_grammar.specs.declared.production.Action.TheVariants.{Lookahead};
+ghost use Rattle.gier_grammar.specs.declared.grammar_symbol.Mark.TheVariants.{Open};
+ghost use Rattle.gier_symbol.specs.ByTag.{sym};
+ghost use Rattle.gier_symbol.specs.declared.tag.Tag.TheVariants.{OwnNumber, TextEnd};
+ghost use Rattle.gier_pass3.specs.Grammar.{AreAbove, StackInvariant, all_above, wanted_in};
+ghost use Rattle.gier_pass3.specs.Invariant.{IsFit, StateInvariant, PreservesState, PreservesStack, PreservesOnSymbol};
+ghost use Rattle.gier_pass3.specs.Invariant.{total_potential, SymbolInvariant, PreservesInvariant, PassInvariant, Relates};
+ghost use Rattle.gier_pass3.specs.Invariant.{IsTextTwo, HasRoom, OpensLists};
 ghost use Rattle.gier_pass3.specs.Found.{Follows, IsBare, faults_of};
 
-use crate::held::{READY, first_line, hold, ready, release_all};
-use crate::item::{Item, Mark};
-use crate::rule::{Act, Role, Rule};
-use crate::stack::{STACK_WIDTH, pop, push, push_wanted};
-use crate::table::{Doing, decide};
+use crate::lookahead::{READY, add_lookahead, first_line, ready, ready_all};
+use crate::stack::{STACK_WIDTH, pop, push, push_right_side};
+use gier_grammar::{Action, GrammarSymbol, Mark, ParseAction, Production, Role, parse_action};
 use gier_symbol::{Alphabet, Coded, Symbol, Tag};
 use gier_text::{Fault, FaultKind, OUTBOX_WIDTH, Pass, PassStop, Tables, Text, flush};
 use gier_tree::Construct;
@@ -60,6 +70,7 @@ fn name_number(s: Symbol) -> u64
     requires symbol { IsSymbol s }
     ensures small { result < 2 ^ 40 }
     ensures numbered { (bytes : ℕ) → IsTrue (is_numbered 2 bytes s) → result < bytes + 64 }
+    ensures value { result ≡ name_number s }
 {
     if s.tag == Tag::Identifier.number() {
         s.value
@@ -85,6 +96,7 @@ fn symbol_of(mark: Mark, line: u32) -> Symbol
 #[tactic(auto, using(crate::proofs::Loads::role_letter, crate::proofs::Loads::small_number))]
 fn in_role(role: Role, s: Symbol) -> Symbol
     requires symbol { IsSymbol s }
+    ensures value { result ≡ as_role role s }
     ensures fit { (bytes : ℕ) → IsFit 2 bytes s → IsFit 3 bytes result }
     ensures potential { potential_of 3 result.tag ≡ potential_of 3 (number_of (tag_of role)) }
 {
@@ -96,16 +108,16 @@ impl Pass3 {
     pub fn open(tables: &mut Tables, bytes: u32) -> Pass3
         requires cleared { tables_model tables.old ≡ fresh (tables_model tables.old).limit }
         requires bytes { bytes ≤ (tables_model tables.old).limit }
-        ensures stands { Stands result (tables_model tables.new) [] [] }
+        ensures stands { PassInvariant result (tables_model tables.new) [] [] }
         ensures bytes { result.bytes ≡ bytes }
         ensures faults { (tables_model tables.new).faults ≡ [] }
         ensures limit { (tables_model tables.new).limit ≡ (tables_model tables.old).limit }
     {
         open_lists(tables, bytes);
-        push(tables, Item::TextEnd, 0);
-        push(tables, Item::ShutProgram, 0);
-        push(tables, Item::Program, 0);
-        push(tables, Item::OpenProgram, 0);
+        push(tables, GrammarSymbol::TextEnd, 0);
+        push(tables, GrammarSymbol::ShutProgram, 0);
+        push(tables, GrammarSymbol::Program, 0);
+        push(tables, GrammarSymbol::OpenProgram, 0);
         Pass3 {
             bytes,
             read: 0,
@@ -118,16 +130,20 @@ impl Pass3 {
 
     // Takes a symbol, unless the fault was found.
     fn step(&mut self, s: Symbol, tables: &mut Tables)
-        requires ready { IsReady self.old (tables_model tables.old) }
-        requires light { load self.old (tables_model tables.old) ≤ 8 * self.old.read + 2 }
+        requires ready { SymbolInvariant self.old (tables_model tables.old) }
+        requires light { total_potential self.old (tables_model tables.old) ≤ 8 * self.old.read + 2 }
         requires more { self.old.read ≤ self.old.bytes }
         requires symbol { IsFit 2 self.old.bytes s }
-        ensures steps { Steps self.old self.new (tables_model tables.old) (tables_model tables.new) }
+        ensures steps { PreservesInvariant self.old self.new (tables_model tables.old) (tables_model tables.new) }
         ensures stays { self.old.stopped ≡ true
             → (self.new.stopped ≡ true) × ((tables_model tables.new).faults ≡ (tables_model tables.old).faults) }
-        ensures told { self.old.stopped ≡ false → (tables_model tables.new).faults ≡ faults_of self.new.stopped self.old.read s.line }
-        ensures follows { self.old.stopped ≡ false → IsBare s → HasItems (tables_model tables.old)
+        ensures told { self.old.stopped ≡ false
+            → (tables_model tables.new).faults ≡ faults_of self.new.stopped self.old.read s.line }
+        ensures follows { self.old.stopped ≡ false → IsBare s → StackInvariant (tables_model tables.old)
             → Follows self.new.stopped s (tables_model tables.old) (tables_model tables.new) }
+        ensures silent { self.old.stopped ≡ true → ready_by (tables_model tables.new) ≡ ready_by (tables_model tables.old) }
+        ensures wrote { self.old.stopped ≡ false → IsBare s → StackInvariant (tables_model tables.old)
+            → RefinesMeet (sign_tag (sign_of s)) s self.old (tables_model tables.old) self.new (tables_model tables.new) }
     {
         if !self.stopped {
             if let Some(kind) = Tag::of(s.tag) {
@@ -139,28 +155,32 @@ impl Pass3 {
 
     // What is wanted next takes the symbol, or there is a fault.
     fn meet(&mut self, kind: Tag, s: Symbol, tables: &mut Tables)
-        requires holds { Holds self.old (tables_model tables.old) }
         requires room { HasRoom 8 12 self.old (tables_model tables.old) }
         requires none { (tables_model tables.old).faults ≡ [] }
         requires going { self.old.stopped ≡ false }
         requires symbol { IsFit 2 self.old.bytes s }
-        ensures meets { Meets self.old self.new (tables_model tables.old) (tables_model tables.new) }
+        requires owns { self.old.owns ≤ 32 * self.old.read }
+        requires within { self.old.read ≤ 524288 }
+        ensures owns { self.new.owns ≤ self.old.owns + 32 }
+        ensures meets { PreservesOnSymbol self.old self.new (tables_model tables.old) (tables_model tables.new) }
         ensures faults { (tables_model tables.new).faults ≡ faults_of self.new.stopped self.old.read s.line }
-        ensures follows { sign_tag (sign_of s) ≡ kind → HasItems (tables_model tables.old)
+        ensures follows { sign_tag (sign_of s) ≡ kind → StackInvariant (tables_model tables.old)
             → Follows self.new.stopped s (tables_model tables.old) (tables_model tables.new) }
+        ensures wrote { StackInvariant (tables_model tables.old)
+            → RefinesMeet kind s self.old (tables_model tables.old) self.new (tables_model tables.new) }
     {
         let mut opened = false;
         while let Some(wanted) = pop(tables) {
-            match decide(wanted.item, kind, wanted.left) {
-                Doing::Refused => {
+            match parse_action(wanted.symbol, kind, wanted.left) {
+                ParseAction::Error => {
                     self.fail(s.line, tables);
                     return;
                 }
-                Doing::Passed => {
-                    opened = self.pass_by(wanted.item, s.line, opened, tables);
+                ParseAction::Epsilon => {
+                    opened = self.write_epsilon(wanted.symbol, s.line, opened, tables);
                 }
-                Doing::Taken(rule) => {
-                    self.take_by(rule, wanted.left, s, tables);
+                ParseAction::Expand(production) => {
+                    self.expand(production, wanted.left, s, tables);
                     return;
                 }
             }
@@ -170,11 +190,13 @@ impl Pass3 {
 
     // No program goes on with a symbol of this line.
     fn fail(&mut self, line: u32, tables: &mut Tables)
-        requires holds { Holds self.old (tables_model tables.old) }
+        requires holds { StateInvariant self.old (tables_model tables.old) }
         requires none { (tables_model tables.old).faults ≡ [] }
-        ensures meets { Meets self.old self.new (tables_model tables.old) (tables_model tables.new) }
+        ensures owns { self.new.owns ≡ self.old.owns }
+        ensures meets { PreservesOnSymbol self.old self.new (tables_model tables.old) (tables_model tables.new) }
         ensures stopped { self.new.stopped ≡ true }
         ensures faults { (tables_model tables.new).faults ≡ faults_of true self.old.read line }
+        ensures ready { ready_by (tables_model tables.new) ≡ ready_by (tables_model tables.old) }
     {
         self.stopped = true;
         tables.add_fault(Fault {
@@ -185,38 +207,51 @@ impl Pass3 {
     }
 
     // A rule takes the symbol.
-    fn take_by(&mut self, rule: Rule, left: u64, s: Symbol, tables: &mut Tables)
-        requires holds { Holds self.old (tables_model tables.old) }
-        requires room { HasRoom (price rule) 12 self.old (tables_model tables.old) }
+    fn expand(&mut self, production: Production, left: u64, s: Symbol, tables: &mut Tables)
+        requires room { HasRoom (price production) 12 self.old (tables_model tables.old) }
         requires small { left < 2 ^ 32 }
         requires symbol { IsFit 2 self.old.bytes s }
-        ensures moves { Moves (price rule) 12 self.old self.new (tables_model tables.old) (tables_model tables.new) }
+        requires owns { self.old.owns + price production < 2 ^ 32 }
+        ensures owns { self.new.owns ≤ self.old.owns + price production }
+        ensures moves { PreservesState (price production) 12 self.old self.new (tables_model tables.old) (tables_model tables.new) }
         ensures read { wanted_in (tables_model tables.new)
-            ≡ all_above (wants_of rule) (left_after rule left) (wanted_in (tables_model tables.old)) }
-        ensures items { HasItems (tables_model tables.old)
-            → AreAbove (wants_of rule) (left_after rule left) (wanted_in (tables_model tables.old)) → HasItems (tables_model tables.new) }
+            ≡ all_above (right_side_of production) (left_after production left) (wanted_in (tables_model tables.old)) }
+        ensures items { StackInvariant (tables_model tables.old)
+            → AreAbove (right_side_of production) (left_after production left) (wanted_in (tables_model tables.old))
+            → StackInvariant (tables_model tables.new) }
+        ensures wrote { RefinesExpand production left s self.old (tables_model tables.old) self.new (tables_model tables.new) }
     {
-        self.apply(rule.acts(), s, tables);
-        push_wanted(tables, rule, left);
+        self.perform_all(production.actions(), s, tables);
+        push_right_side(tables, production, left);
         self.last = s.line;
     }
 
     // Writes what an item that is passed writes: a mark, or what was held for it. Tells whether a construct was opened
     // before this symbol, and has none.
-    fn pass_by(&mut self, item: Item, here: u32, opened: bool, tables: &mut Tables) -> bool
-        requires holds { Holds self.old (tables_model tables.old) }
+    fn write_epsilon(
+        &mut self,
+        item: GrammarSymbol,
+        here: u32,
+        opened: bool,
+        tables: &mut Tables,
+    ) -> bool
         requires room { HasRoom (credit_of item) 0 self.old (tables_model tables.old) }
         requires here { here < 2 ^ 24 }
-        ensures moves { Moves (credit_of item) 0 self.old self.new (tables_model tables.old) (tables_model tables.new) }
+        ensures preserves { PreservesStack (credit_of item) 0 self.old self.new (tables_model tables.old)
+            (tables_model tables.new) }
         ensures opened { result ≡ opened_by (mark_of item) opened }
-        ensures stack { stack_in (tables_model tables.new) ≡ stack_in (tables_model tables.old) }
+        ensures wrote { RefinesEpsilon item here opened result self.old (tables_model tables.old) self.new
+            (tables_model tables.new) }
     {
         if let Some(mark) = item.mark() {
             return self.write_mark(mark, here, opened, tables);
         }
         match item {
-            Item::Statement | Item::AfterName | Item::Branch | Item::AfterBranchName => {
-                self.release(tables);
+            GrammarSymbol::Statement
+            | GrammarSymbol::AfterName
+            | GrammarSymbol::Branch
+            | GrammarSymbol::AfterBranchName => {
+                self.write_lookahead(tables);
                 opened
             }
             _ => opened,
@@ -224,12 +259,11 @@ impl Pass3 {
     }
 
     fn write_mark(&mut self, mark: Mark, here: u32, opened: bool, tables: &mut Tables) -> bool
-        requires holds { Holds self.old (tables_model tables.old) }
         requires room { HasRoom 1 0 self.old (tables_model tables.old) }
         requires here { here < 2 ^ 24 }
-        ensures moves { Moves 1 0 self.old self.new (tables_model tables.old) (tables_model tables.new) }
+        ensures preserves { PreservesStack 1 0 self.old self.new (tables_model tables.old) (tables_model tables.new) }
         ensures opened { result ≡ opened_by (Some mark) opened }
-        ensures stack { stack_in (tables_model tables.new) ≡ stack_in (tables_model tables.old) }
+        ensures wrote { RefinesMark mark here opened result self.old (tables_model tables.old) self.new (tables_model tables.new) }
     {
         let line = self.line_of(mark, here, opened);
         self.write(symbol_of(mark, line), tables);
@@ -253,77 +287,84 @@ impl Pass3 {
     }
 
     // Does with the symbol what the acts tell, in order.
-    fn apply(&mut self, acts: &[Act], s: Symbol, tables: &mut Tables)
-        requires holds { Holds self.old (tables_model tables.old) }
-        requires room { HasRoom (costs acts.now) 0 self.old (tables_model tables.old) }
+    fn perform_all(&mut self, actions: &[Action], s: Symbol, tables: &mut Tables)
+        requires room { HasRoom (costs actions.now) 0 self.old (tables_model tables.old) }
         requires symbol { IsFit 2 self.old.bytes s }
-        ensures moves { Moves (costs acts.now) 0 self.old self.new (tables_model tables.old) (tables_model tables.new) }
-        ensures stack { stack_in (tables_model tables.new) ≡ stack_in (tables_model tables.old) }
+        requires owns { self.old.owns + costs actions.now < 2 ^ 32 }
+        ensures preserves { PreservesStack (costs actions.now) (costs actions.now) self.old self.new (tables_model tables.old)
+            (tables_model tables.new) }
+        ensures wrote { RefinesWriting self.old (tables_model tables.old) self.new (tables_model tables.new)
+            (actions_on actions.now s (writer_state_in self.old (tables_model tables.old))) }
     {
-        for act in acts {
-            self.act(*act, s, tables);
+        for action in actions {
+            self.perform(*action, s, tables);
         }
     }
 
-    fn act(&mut self, act: Act, s: Symbol, tables: &mut Tables)
-        requires holds { Holds self.old (tables_model tables.old) }
-        requires room { HasRoom (cost_of act) 0 self.old (tables_model tables.old) }
+    fn perform(&mut self, action: Action, s: Symbol, tables: &mut Tables)
+        requires room { HasRoom (cost_of action) 0 self.old (tables_model tables.old) }
         requires symbol { IsFit 2 self.old.bytes s }
-        ensures moves { Moves (cost_of act) 0 self.old self.new (tables_model tables.old) (tables_model tables.new) }
-        ensures stack { stack_in (tables_model tables.new) ≡ stack_in (tables_model tables.old) }
+        requires owns { self.old.owns + cost_of action < 2 ^ 32 }
+        ensures preserves { PreservesStack (cost_of action) (cost_of action) self.old self.new (tables_model tables.old)
+            (tables_model tables.new) }
+        ensures wrote { RefinesWriting self.old (tables_model tables.old) self.new (tables_model tables.new)
+            (action_on action s (writer_state_in self.old (tables_model tables.old))) }
     {
-        match act {
-            Act::Open(construct) => self.open_before(construct, s.line, tables),
-            Act::Release => self.release(tables),
-            Act::Write => self.write(s, tables),
-            Act::WriteAs(role) => self.write(in_role(role, s), tables),
-            Act::WriteOwn => self.write_own(s.line, tables),
-            Act::WriteEnd => self.write_end(s.line, tables),
-            Act::Hold => self.hold(s, tables),
-            Act::HoldName => self.name = Some(s),
-            Act::HoldLabel => self.hold_label(s, tables),
+        match action {
+            Action::Open(construct) => self.open_before(construct, s.line, tables),
+            Action::WriteLookahead => self.write_lookahead(tables),
+            Action::Write => self.write(s, tables),
+            Action::WriteAs(role) => self.write(in_role(role, s), tables),
+            Action::WriteOwn => self.write_own(s.line, tables),
+            Action::WriteEnd => self.write_end(s.line, tables),
+            Action::Lookahead => self.add_lookahead(s, tables),
+            Action::LookaheadName => self.name = Some(s),
+            Action::LookaheadLabel => self.add_label(s, tables),
         }
     }
 
     // Makes a symbol ready.
     fn write(&mut self, s: Symbol, tables: &mut Tables)
-        requires holds { Holds self.old (tables_model tables.old) }
         requires room { HasRoom (potential_of 3 s.tag) 0 self.old (tables_model tables.old) }
         requires fit { IsFit 3 self.old.bytes s }
-        ensures moves { Moves (potential_of 3 s.tag) 0 self.old self.new (tables_model tables.old) (tables_model tables.new) }
-        ensures stack { stack_in (tables_model tables.new) ≡ stack_in (tables_model tables.old) }
+        ensures preserves { PreservesStack (potential_of 3 s.tag) 0 self.old self.new (tables_model tables.old)
+            (tables_model tables.new) }
+        ensures wrote { RefinesWriting self.old (tables_model tables.old) self.new (tables_model tables.new)
+            (λ next. s ∷ next (writer_state_in self.old (tables_model tables.old))) }
     {
         ready(tables, s);
     }
 
-    fn hold(&mut self, s: Symbol, tables: &mut Tables)
-        requires holds { Holds self.old (tables_model tables.old) }
+    fn add_lookahead(&mut self, s: Symbol, tables: &mut Tables)
         requires room { HasRoom (potential_of 3 s.tag) 0 self.old (tables_model tables.old) }
         requires fit { IsFit 3 self.old.bytes s }
-        ensures moves { Moves (potential_of 3 s.tag) 0 self.old self.new (tables_model tables.old) (tables_model tables.new) }
-        ensures stack { stack_in (tables_model tables.new) ≡ stack_in (tables_model tables.old) }
+        ensures preserves { PreservesStack (potential_of 3 s.tag) 0 self.old self.new (tables_model tables.old)
+            (tables_model tables.new) }
+        ensures wrote { RefinesWriting self.old (tables_model tables.old) self.new (tables_model tables.new)
+            (action_on Lookahead s (writer_state_in self.old (tables_model tables.old))) }
     {
-        hold(tables, s);
+        add_lookahead(tables, s);
     }
 
     // Makes all that is held ready.
-    fn release(&mut self, tables: &mut Tables)
-        requires holds { Holds self.old (tables_model tables.old) }
+    fn write_lookahead(&mut self, tables: &mut Tables)
         requires room { HasRoom 0 0 self.old (tables_model tables.old) }
-        ensures moves { Moves 0 0 self.old self.new (tables_model tables.old) (tables_model tables.new) }
-        ensures stack { stack_in (tables_model tables.new) ≡ stack_in (tables_model tables.old) }
+        ensures preserves { PreservesStack 0 0 self.old self.new (tables_model tables.old) (tables_model tables.new) }
+        ensures wrote { RefinesWriting self.old (tables_model tables.old) self.new (tables_model tables.new)
+            (write_lookahead (writer_state_in self.old (tables_model tables.old))) }
     {
-        release_all(tables, self.name);
+        ready_all(tables, self.name);
         self.name = None;
     }
 
     // Opens a construct before the first symbol that is held, or at this line.
     fn open_before(&mut self, construct: Construct, line: u32, tables: &mut Tables)
-        requires holds { Holds self.old (tables_model tables.old) }
         requires room { HasRoom 1 0 self.old (tables_model tables.old) }
         requires line { line < 2 ^ 24 }
-        ensures moves { Moves 1 0 self.old self.new (tables_model tables.old) (tables_model tables.new) }
-        ensures stack { stack_in (tables_model tables.new) ≡ stack_in (tables_model tables.old) }
+        ensures preserves { PreservesStack 1 0 self.old self.new (tables_model tables.old) (tables_model tables.new) }
+        ensures wrote { RefinesWriting self.old (tables_model tables.old) self.new (tables_model tables.new)
+            (λ next. mark_symbol (Open construct) (first_line (lookahead_by (tables_model tables.old)) self.old.name line)
+            ∷ next (writer_state_in self.old (tables_model tables.old))) }
     {
         let first = first_line(tables, self.name, line);
         self.write(symbol_of(Mark::Open(construct), first), tables);
@@ -331,11 +372,13 @@ impl Pass3 {
 
     // Writes the number of an own quantity, which is the next one.
     fn write_own(&mut self, line: u32, tables: &mut Tables)
-        requires holds { Holds self.old (tables_model tables.old) }
         requires room { HasRoom 1 0 self.old (tables_model tables.old) }
         requires line { line < 2 ^ 24 }
-        ensures moves { Moves 1 0 self.old self.new (tables_model tables.old) (tables_model tables.new) }
-        ensures stack { stack_in (tables_model tables.new) ≡ stack_in (tables_model tables.old) }
+        requires owns { self.old.owns + 1 < 2 ^ 32 }
+        ensures preserves { PreservesStack 1 1 self.old self.new (tables_model tables.old) (tables_model tables.new) }
+        ensures wrote { RefinesWriting self.old (tables_model tables.old) self.new (tables_model tables.new)
+            (λ next. sym OwnNumber self.old.owns line
+            ∷ next (with_owns (writer_state_in self.old (tables_model tables.old)) (suc self.old.owns))) }
     {
         self.write(
             Symbol::new(Tag::OwnNumber, u64::from(self.owns), line),
@@ -346,11 +389,11 @@ impl Pass3 {
 
     // Writes the end with the number of own quantities.
     fn write_end(&mut self, line: u32, tables: &mut Tables)
-        requires holds { Holds self.old (tables_model tables.old) }
         requires room { HasRoom 5 0 self.old (tables_model tables.old) }
         requires line { line < 2 ^ 24 }
-        ensures moves { Moves 5 0 self.old self.new (tables_model tables.old) (tables_model tables.new) }
-        ensures stack { stack_in (tables_model tables.new) ≡ stack_in (tables_model tables.old) }
+        ensures preserves { PreservesStack 5 0 self.old self.new (tables_model tables.old) (tables_model tables.new) }
+        ensures wrote { RefinesWriting self.old (tables_model tables.old) self.new (tables_model tables.new)
+            (λ next. sym TextEnd self.old.owns line ∷ next (writer_state_in self.old (tables_model tables.old))) }
     {
         self.write(
             Symbol::new(Tag::TextEnd, u64::from(self.owns), line),
@@ -359,17 +402,17 @@ impl Pass3 {
     }
 
     // Holds the identifier as a label, with the symbol as its colon.
-    fn hold_label(&mut self, colon: Symbol, tables: &mut Tables)
-        requires holds { Holds self.old (tables_model tables.old) }
+    fn add_label(&mut self, colon: Symbol, tables: &mut Tables)
         requires room { HasRoom 1 0 self.old (tables_model tables.old) }
         requires symbol { IsFit 2 self.old.bytes colon }
-        ensures moves { Moves 1 0 self.old self.new (tables_model tables.old) (tables_model tables.new) }
-        ensures stack { stack_in (tables_model tables.new) ≡ stack_in (tables_model tables.old) }
+        ensures preserves { PreservesStack 1 0 self.old self.new (tables_model tables.old) (tables_model tables.new) }
+        ensures wrote { RefinesWriting self.old (tables_model tables.old) self.new (tables_model tables.new)
+            (add_label self.old.name colon (writer_state_in self.old (tables_model tables.old))) }
     {
         if let Some(name) = self.name {
             self.name = None;
-            self.hold(in_role(Role::Declaring, name), tables);
-            self.hold(in_role(Role::LabelColon, colon), tables);
+            self.add_lookahead(in_role(Role::Declaring, name), tables);
+            self.add_lookahead(in_role(Role::LabelColon, colon), tables);
         }
     }
 }
@@ -379,7 +422,7 @@ fn open_lists(tables: &mut Tables, bytes: u32)
     requires cleared { tables_model tables.old ≡ fresh (tables_model tables.old).limit }
     requires bytes { bytes ≤ (tables_model tables.old).limit }
     requires limit { (tables_model tables.old).limit ≤ 2 ^ 19 }
-    ensures { Opens bytes (tables_model tables.old) (tables_model tables.new) }
+    ensures { OpensLists bytes (tables_model tables.old) (tables_model tables.new) }
 {
     tables.list(STACK_WIDTH, ITEMS_EACH * bytes + FIRST_ITEMS);
     tables.list(OUTBOX_WIDTH, WRITTEN_EACH * bytes + LAST_WRITTEN);
@@ -405,7 +448,7 @@ impl Pass for Pass3 {
 
     ghost GROWTH = { 8 };
 
-    ghost stands = { λ pass tables read written. Stands pass (tables_model tables) read written };
+    ghost stands = { λ pass tables read written. PassInvariant pass (tables_model tables) read written };
 
     ghost relates = { λ pass tables read written. Relates pass (tables_model tables) read written };
 

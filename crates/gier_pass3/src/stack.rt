@@ -1,14 +1,16 @@
 // The stack of what is wanted next, a list of the tables. The next item is last.
-ghost use Rattle.std.specs.Prelude.{◌≡◌, ◌≤◌, ◌<◌, ◌+◌, ◌*◌, ◌/◌, ◌^◌, ◌%◌, length, IfSome, Some};
+ghost use Rattle.std.specs.Prelude.{◌≡◌, ◌≤◌, ◌<◌, ◌+◌, ◌*◌, ◌/◌, ◌^◌, ◌%◌, ◌∷◌, length, IfSome, Some};
 ghost use Rattle.gier_text.specs.TablesModel.{tables_model};
-ghost use Rattle.gier_pass3.specs.Items.{credit_at, credit_of, credits};
-ghost use Rattle.gier_pass3.specs.Rules.{wants_of, left_after};
-ghost use Rattle.gier_pass3.specs.declared.item.Item.{Item};
-ghost use Rattle.gier_pass3.specs.Grammar.{HasItems, IsAbove, AreAbove, Pops, all_above, item_at, wanted_above, wanted_in, word_of};
-ghost use Rattle.gier_pass3.specs.Lists.{HasLists, KeepsLists, stack_in, held_in, ready_in, depth, credit};
+ghost use Rattle.gier_grammar.specs.GrammarSymbols.{credit_at, credit_of, credits};
+ghost use Rattle.gier_grammar.specs.Productions.{right_side_of, left_after};
+ghost use Rattle.gier_grammar.specs.declared.grammar_symbol.GrammarSymbol.{GrammarSymbol};
+ghost use Rattle.gier_pass3.specs.Grammar.{StackInvariant, IsAbove, AreAbove, Pops, all_above, item_at, wanted_above};
+ghost use Rattle.gier_pass3.specs.Grammar.{wanted_in, word_of};
+ghost use Rattle.gier_pass3.specs.Lists.{ListsInvariant, PreservesQueues, stack_in, depth, credit};
+ghost use Rattle.gier_pass3.specs.Refinement.{PopsStackEntry, entries_in};
+ghost use Rattle.gier_grammar.specs.StackEntries.{above, entry};
 
-use crate::item::Item;
-use crate::rule::Rule;
+use gier_grammar::{GrammarSymbol, Production, StackEntry};
 use gier_text::Tables;
 
 /// The list that is the stack.
@@ -23,24 +25,17 @@ const LEFT: u64 = 256;
 // How many pairs of constants a segment of own arrays may have behind the first.
 const MORE_PAIRS: u64 = 29;
 
-/// An item of the stack.
-#[derive(Debug, Clone, Copy)]
-pub struct Wanted {
-    pub item: Item,
-    /// How many pairs of constants may still follow.
-    pub left: u64,
-}
-
 // What a word of the stack stands for.
-fn unfold(word: u64) -> Option<Wanted>
+fn unfold(word: u64) -> Option<StackEntry>
     requires { word < 2 ^ 40 }
-    ensures credit { IfSome result (λ wanted. credit_of wanted.item ≡ credit_at (word % 256)) }
+    ensures credit { IfSome result (λ wanted. credit_of wanted.symbol ≡ credit_at (word % 256)) }
     ensures small { IfSome result (λ wanted. wanted.left < 2 ^ 32) }
-    ensures wanted { (item : Item) → item_at (word % 256) ≡ Some item → result ≡ Some (record { item = item; left = word / 256 }) }
+    ensures wanted { (item : GrammarSymbol) → item_at (word % 256) ≡ Some item
+        → result ≡ Some (record { symbol = item; left = word / 256 }) }
 {
-    match Item::of(word % LEFT) {
-        Some(item) => Some(Wanted {
-            item,
+    match GrammarSymbol::of(word % LEFT) {
+        Some(item) => Some(StackEntry {
+            symbol: item,
             left: word / LEFT,
         }),
         None => None,
@@ -48,17 +43,19 @@ fn unfold(word: u64) -> Option<Wanted>
 }
 
 /// Takes the next item away, or gives None where the stack is empty.
-pub fn pop(tables: &mut Tables) -> Option<Wanted>
-    requires lists { HasLists (tables_model tables.old) }
-    ensures kept { KeepsLists (tables_model tables.old) (tables_model tables.new) }
-    ensures held { held_in (tables_model tables.new) ≡ held_in (tables_model tables.old) }
-    ensures ready { ready_in (tables_model tables.new) ≡ ready_in (tables_model tables.old) }
+pub fn pop(tables: &mut Tables) -> Option<StackEntry>
+    requires lists { ListsInvariant (tables_model tables.old) }
+    ensures queues { PreservesQueues (tables_model tables.old) (tables_model tables.new) }
     ensures less { IfSome result (λ wanted. depth (tables_model tables.new) < depth (tables_model tables.old)) }
-    ensures paid { IfSome result (λ wanted. credit (tables_model tables.new) + credit_of wanted.item ≤ credit (tables_model tables.old)) }
+    ensures paid { IfSome result (λ wanted. credit (tables_model tables.new) + credit_of wanted.symbol
+        ≤ credit (tables_model tables.old)) }
     ensures small { IfSome result (λ wanted. wanted.left < 2 ^ 32) }
     ensures depth { depth (tables_model tables.new) ≤ depth (tables_model tables.old) }
     ensures credit { credit (tables_model tables.new) ≤ credit (tables_model tables.old) }
-    ensures read { HasItems (tables_model tables.old) → Pops (wanted_in (tables_model tables.old)) result (tables_model tables.new) }
+    ensures read { StackInvariant (tables_model tables.old)
+        → Pops (wanted_in (tables_model tables.old)) result (tables_model tables.new) }
+    ensures entries { StackInvariant (tables_model tables.old)
+        → PopsStackEntry (entries_in (tables_model tables.old)) result (tables_model tables.new) }
 {
     let depth = tables.len(STACK);
     if depth == 0 {
@@ -71,21 +68,24 @@ pub fn pop(tables: &mut Tables) -> Option<Wanted>
 
 /// Puts what the rule wants on the stack. `left` is how many pairs of constants could follow where it was applied.
 #[tactic(auto, using(crate::proofs::Credit::credits_back))]
-pub fn push_wanted(tables: &mut Tables, rule: Rule, left: u64)
-    requires lists { HasLists (tables_model tables.old) }
-    requires room { depth (tables_model tables.old) + length (wants_of rule) ≤ (stack_in (tables_model tables.old)).capacity }
+pub fn push_right_side(tables: &mut Tables, production: Production, left: u64)
+    requires lists { ListsInvariant (tables_model tables.old) }
+    requires room { depth (tables_model tables.old) + length (right_side_of production)
+        ≤ (stack_in (tables_model tables.old)).capacity }
     requires small { left < 2 ^ 32 }
-    ensures kept { KeepsLists (tables_model tables.old) (tables_model tables.new) }
-    ensures held { held_in (tables_model tables.new) ≡ held_in (tables_model tables.old) }
-    ensures ready { ready_in (tables_model tables.new) ≡ ready_in (tables_model tables.old) }
-    ensures depth { depth (tables_model tables.new) ≡ depth (tables_model tables.old) + length (wants_of rule) }
-    ensures credit { credit (tables_model tables.new) ≡ credit (tables_model tables.old) + credits (wants_of rule) }
-    ensures read { wanted_in (tables_model tables.new) ≡ all_above (wants_of rule) (left_after rule left) (wanted_in (tables_model tables.old)) }
-    ensures items { HasItems (tables_model tables.old)
-        → AreAbove (wants_of rule) (left_after rule left) (wanted_in (tables_model tables.old)) → HasItems (tables_model tables.new) }
+    ensures queues { PreservesQueues (tables_model tables.old) (tables_model tables.new) }
+    ensures depth { depth (tables_model tables.new) ≡ depth (tables_model tables.old) + length (right_side_of production) }
+    ensures credit { credit (tables_model tables.new) ≡ credit (tables_model tables.old) + credits (right_side_of production) }
+    ensures read { wanted_in (tables_model tables.new)
+        ≡ all_above (right_side_of production) (left_after production left) (wanted_in (tables_model tables.old)) }
+    ensures entries { entries_in (tables_model tables.new)
+        ≡ above (right_side_of production) (left_after production left) (entries_in (tables_model tables.old)) }
+    ensures items { StackInvariant (tables_model tables.old)
+        → AreAbove (right_side_of production) (left_after production left) (wanted_in (tables_model tables.old))
+        → StackInvariant (tables_model tables.new) }
 {
-    let left = left_after(rule, left);
-    let items = rule.wants();
+    let left = left_after(production, left);
+    let items = production.right_side();
     let mut at = items.len();
     while at > 0 {
         at -= 1;
@@ -94,41 +94,45 @@ pub fn push_wanted(tables: &mut Tables, rule: Rule, left: u64)
 }
 
 // How many pairs of constants may follow what the rule wants.
-fn left_after(rule: Rule, left: u64) -> u64
+fn left_after(production: Production, left: u64) -> u64
     requires { left < 2 ^ 32 }
-    ensures value { result ≡ left_after rule left }
+    ensures value { result ≡ left_after production left }
     ensures small { result < 2 ^ 32 }
 {
-    match rule {
-        Rule::FirstPair => MORE_PAIRS,
-        Rule::NextPair => left.saturating_sub(1),
+    match production {
+        Production::FirstPair => MORE_PAIRS,
+        Production::NextPair => left.saturating_sub(1),
         _ => 0,
     }
 }
 
 // The word that stands for an item.
-fn fold(item: Item, left: u64) -> u64
+fn fold(item: GrammarSymbol, left: u64) -> u64
     requires { left < 2 ^ 32 }
     ensures small { result < 2 ^ 40 }
     ensures credit { credit_at (result % 256) ≡ credit_of item }
     ensures word { result ≡ word_of item left }
 {
-    let beside = if item == Item::MorePairs { left } else { 0 };
+    let beside = if item == GrammarSymbol::MorePairs {
+        left
+    } else {
+        0
+    };
     item.number() + beside * LEFT
 }
 
 /// Puts an item on the stack.
-pub fn push(tables: &mut Tables, item: Item, left: u64)
-    requires lists { HasLists (tables_model tables.old) }
+pub fn push(tables: &mut Tables, item: GrammarSymbol, left: u64)
+    requires lists { ListsInvariant (tables_model tables.old) }
     requires room { depth (tables_model tables.old) < (stack_in (tables_model tables.old)).capacity }
     requires small { left < 2 ^ 32 }
-    ensures kept { KeepsLists (tables_model tables.old) (tables_model tables.new) }
-    ensures held { held_in (tables_model tables.new) ≡ held_in (tables_model tables.old) }
-    ensures ready { ready_in (tables_model tables.new) ≡ ready_in (tables_model tables.old) }
+    ensures queues { PreservesQueues (tables_model tables.old) (tables_model tables.new) }
     ensures depth { depth (tables_model tables.new) ≡ depth (tables_model tables.old) + 1 }
     ensures credit { credit (tables_model tables.new) ≡ credit (tables_model tables.old) + credit_of item }
     ensures read { wanted_in (tables_model tables.new) ≡ wanted_above item left (wanted_in (tables_model tables.old)) }
-    ensures items { HasItems (tables_model tables.old) → IsAbove item (wanted_in (tables_model tables.old)) → HasItems (tables_model tables.new) }
+    ensures entries { entries_in (tables_model tables.new) ≡ entry item left ∷ entries_in (tables_model tables.old) }
+    ensures items { StackInvariant (tables_model tables.old) → IsAbove item (wanted_in (tables_model tables.old))
+        → StackInvariant (tables_model tables.new) }
 {
     let word = fold(item, left);
     tables.push(STACK, &[word]);

@@ -29,7 +29,8 @@ entry_of (Some n) = 2
 
 -- what weighs that which is still to be written for the symbols that were taken
 abbrev pub potential_held : Pass4 → TablesModel → ℕ
-potential_held pass t = potential_stored t 0 + potential_stored t 1 + potential_stored t 2 + potential_stored t 3 + potential_stored t 4 + rest_of pass.frame + entry_of pass.procedure
+potential_held pass t = potential_stored t 0 + potential_stored t 1 + potential_stored t 2 + potential_stored t 3
+    + potential_stored t 4 + rest_of pass.frame + entry_of pass.procedure
 
 -- what the fields say fits texts
 pub record HasFields (pass : Pass4) : Type 0 where

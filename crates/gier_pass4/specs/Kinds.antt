@@ -1,9 +1,15 @@
 -- What the words before identifiers say of their kind.
 use Rattle.std.specs.Prelude.{ℕ}
 use Rattle.gier_symbol.specs.declared.tag.Tag.{Tag}
-use Rattle.gier_symbol.specs.declared.tag.Tag.TheVariants.{Integer as IntegerWord, Boolean as BooleanWord, Array as ArrayWord, Switch as SwitchWord, Procedure as ProcedureWord, String as StringWord, Label as LabelWord}
+use Rattle.gier_symbol.specs.declared.tag.Tag.TheVariants.{Integer as IntegerWord, Boolean as BooleanWord, Array as ArrayWord}
+use Rattle.gier_symbol.specs.declared.tag.Tag.TheVariants.{Switch as SwitchWord, Procedure as ProcedureWord}
+use Rattle.gier_symbol.specs.declared.tag.Tag.TheVariants.{String as StringWord, Label as LabelWord}
 use Rattle.gier_tree.specs.declared.kind.Kind.{Kind}
-use Rattle.gier_tree.specs.declared.kind.Kind.TheVariants.{IntegerVariable, BooleanVariable, IntegerArray, BooleanArray, Procedure, IntegerProcedure, BooleanProcedure, IntegerValue, BooleanValue, IntegerFormal, BooleanFormal, IntegerArrayFormal, BooleanArrayFormal, LabelFormal, SwitchFormal, StringFormal, ProcedureFormal, IntegerProcedureFormal, BooleanProcedureFormal}
+use Rattle.gier_tree.specs.declared.kind.Kind.TheVariants.{IntegerVariable, BooleanVariable, IntegerArray, BooleanArray}
+use Rattle.gier_tree.specs.declared.kind.Kind.TheVariants.{Procedure, IntegerProcedure, BooleanProcedure, IntegerValue}
+use Rattle.gier_tree.specs.declared.kind.Kind.TheVariants.{BooleanValue, IntegerFormal, BooleanFormal, IntegerArrayFormal}
+use Rattle.gier_tree.specs.declared.kind.Kind.TheVariants.{BooleanArrayFormal, LabelFormal, SwitchFormal, StringFormal}
+use Rattle.gier_tree.specs.declared.kind.Kind.TheVariants.{ProcedureFormal, IntegerProcedureFormal, BooleanProcedureFormal}
 use Rattle.gier_pass4.specs.declared.marks.ParseState.{ParseState}
 use Rattle.gier_pass4.specs.declared.marks.ParseState.TheVariants.{TypeDeclaration as InType, Heading}
 use Rattle.gier_pass4.specs.declared.owns.Frame.{Frame}

@@ -77,7 +77,8 @@ empty_list width capacity = record { width = width; capacity = capacity; count =
 
 -- the lists before anything is put into them
 abbrev pub queues : ℕ → List TableList
-queues bytes = empty_list 2 (8 * bytes + 64) ∷ empty_list 2 (6 * bytes + 48) ∷ empty_list 2 (4 * bytes + 32) ∷ empty_list 2 (8 * bytes + 64) ∷ empty_list 2 (2 * bytes + 16) ∷ []
+queues bytes = empty_list 2 (8 * bytes + 64) ∷ empty_list 2 (6 * bytes + 48) ∷ empty_list 2 (4 * bytes + 32)
+    ∷ empty_list 2 (8 * bytes + 64) ∷ empty_list 2 (2 * bytes + 16) ∷ []
 
 abbrev pub lists_when_opened : ℕ → List TableList
 lists_when_opened bytes = queues bytes ++ empty_list 1 (bytes + 2) ∷ empty_list 1 (bytes + 25) ∷ empty_list 2 (bytes + 64) ∷ []

@@ -6,7 +6,8 @@
 ghost use Rattle.std.specs.Prelude.{◌≡◌, ◌<◌, ◌≤◌, length};
 ghost use Rattle.gier_text.specs.TablesModel.{tables_model};
 ghost use Rattle.gier_text.specs.Lists.{list_at};
-ghost use Rattle.gier_pass4.specs.Kinds.{by_value, declared_by, integer_before, boolean_before, specified_by, typed_by, kind_by_word};
+ghost use Rattle.gier_pass4.specs.Kinds.{by_value, declared_by, integer_before, boolean_before, specified_by, typed_by};
+ghost use Rattle.gier_pass4.specs.Kinds.{kind_by_word};
 ghost use Rattle.gier_pass4.specs.Lists.{HasLists, Fills, Grows};
 
 use crate::lists::{CELLS, Lists};
@@ -84,7 +85,12 @@ pub(crate) fn with_word(place: ParseState, behind: Kind, word: Tag) -> Kind
 {
     match place {
         ParseState::Heading => specified(behind, word),
-        ParseState::TypeDeclaration => typed(Kind::IntegerVariable, Kind::BooleanVariable, behind, word),
+        ParseState::TypeDeclaration => typed(
+            Kind::IntegerVariable,
+            Kind::BooleanVariable,
+            behind,
+            word,
+        ),
         _ => typed(Kind::IntegerArray, Kind::BooleanArray, behind, word),
     }
 }

@@ -7,6 +7,7 @@ ghost use Rattle.gier_text.specs.TablesModel.{tables_model, fresh};
 ghost use Rattle.gier_pass4.specs.Lists.{HasLists, IsLetter, Adds, Grows, potential_stored, lists_when_opened, queues, room_of};
 
 use crate::{kinds, names};
+use gier_limits::STANDARD_NAMES;
 use gier_symbol::{Symbol, Tag};
 use gier_text::{OUTBOX_WIDTH, Tables, put};
 
@@ -34,9 +35,6 @@ pub(crate) const CELLS: u8 = 6;
 
 /// The rows of identifiers.
 pub(crate) const ROWS: u8 = 7;
-
-// How many identifiers have numbers without being in the program.
-const STANDARD_NAMES: u32 = 64;
 
 /// The lists for a program of so many bytes.
 #[derive(Debug, Clone, Copy, PartialEq, Eq)]

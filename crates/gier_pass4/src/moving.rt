@@ -63,10 +63,12 @@ impl Lists {
         requires to { to < 5 }
         requires apart { from ≢ to }
         requires entry { at < (list_at (tables_model tables.old).lists from).count }
-        requires room { potential_stored (tables_model tables.old) to + potential 4 (if_any (symbol_at (list_at (tables_model tables.old).lists from) at)) ≤ room_of self.bytes to }
+        requires room { potential_stored (tables_model tables.old) to + potential 4
+            (if_any (symbol_at (list_at (tables_model tables.old).lists from) at)) ≤ room_of self.bytes to }
         requires line { IfSome line (λ n. n < 2 ^ 24) }
         ensures lists { HasLists self.bytes (tables_model tables.new) }
-        ensures copies { Copies from to (potential 4 (if_any (symbol_at (list_at (tables_model tables.old).lists from) at))) (tables_model tables.old) (tables_model tables.new) }
+        ensures copies { Copies from to (potential 4 (if_any (symbol_at (list_at (tables_model tables.old).lists from) at)))
+            (tables_model tables.old) (tables_model tables.new) }
     {
         match waiting_at(tables, from, at) {
             Some(symbol) => {
@@ -84,7 +86,8 @@ impl Lists {
         requires to { to < 5 }
         requires apart { from ≢ to }
         requires base { base ≤ (list_at (tables_model tables.old).lists from).count }
-        requires room { potential_stored (tables_model tables.old) from + potential_stored (tables_model tables.old) to ≤ room_of self.bytes to }
+        requires room { potential_stored (tables_model tables.old) from + potential_stored (tables_model tables.old) to
+            ≤ room_of self.bytes to }
         requires line { IfSome line (λ n. n < 2 ^ 24) }
         ensures lists { HasLists self.bytes (tables_model tables.new) }
         ensures moves { Moves from to base (tables_model tables.old) (tables_model tables.new) }
@@ -98,7 +101,8 @@ impl Lists {
     /// What waits to be written turns out to belong to an own declaration.
     pub(crate) fn keep_own(self, tables: &mut Tables)
         requires lists { HasLists self.bytes (tables_model tables.old) }
-        requires room { potential_stored (tables_model tables.old) 0 + potential_stored (tables_model tables.old) 3 ≤ 8 * self.bytes + 64 }
+        requires room { potential_stored (tables_model tables.old) 0 + potential_stored (tables_model tables.old) 3
+            ≤ 8 * self.bytes + 64 }
         ensures lists { HasLists self.bytes (tables_model tables.new) }
         ensures moves { Moves 0 3 0 (tables_model tables.old) (tables_model tables.new) }
         ensures entries { potential_stored (tables_model tables.new) 1 ≡ potential_stored (tables_model tables.old) 1 }
@@ -111,7 +115,8 @@ impl Lists {
     /// The own declarations are to be written.
     pub(crate) fn give_owns(self, tables: &mut Tables)
         requires lists { HasLists self.bytes (tables_model tables.old) }
-        requires room { potential_stored (tables_model tables.old) 3 + potential_stored (tables_model tables.old) 0 ≤ 8 * self.bytes + 64 }
+        requires room { potential_stored (tables_model tables.old) 3 + potential_stored (tables_model tables.old) 0
+            ≤ 8 * self.bytes + 64 }
         ensures lists { HasLists self.bytes (tables_model tables.new) }
         ensures moves { Moves 3 0 0 (tables_model tables.old) (tables_model tables.new) }
         ensures entries { potential_stored (tables_model tables.new) 1 ≡ potential_stored (tables_model tables.old) 1 }
@@ -124,7 +129,8 @@ impl Lists {
     /// The descriptions of formals belong to the entry of a procedure.
     pub(crate) fn give_formals(self, tables: &mut Tables)
         requires lists { HasLists self.bytes (tables_model tables.old) }
-        requires room { potential_stored (tables_model tables.old) 4 + potential_stored (tables_model tables.old) 1 ≤ 6 * self.bytes + 48 }
+        requires room { potential_stored (tables_model tables.old) 4 + potential_stored (tables_model tables.old) 1
+            ≤ 6 * self.bytes + 48 }
         ensures lists { HasLists self.bytes (tables_model tables.new) }
         ensures moves { Moves 4 1 0 (tables_model tables.old) (tables_model tables.new) }
         ensures out { potential_stored (tables_model tables.new) 0 ≡ potential_stored (tables_model tables.old) 0 }
@@ -137,10 +143,12 @@ impl Lists {
     /// The entries from this one on are to be written, behind a mark of this line.
     pub(crate) fn give_entries(self, tables: &mut Tables, base: u32, line: u32)
         requires lists { HasLists self.bytes (tables_model tables.old) }
-        requires room { potential_stored (tables_model tables.old) 1 + potential_stored (tables_model tables.old) 0 ≤ 8 * self.bytes + 64 }
+        requires room { potential_stored (tables_model tables.old) 1 + potential_stored (tables_model tables.old) 0
+            ≤ 8 * self.bytes + 64 }
         requires line { line < 2 ^ 24 }
         ensures lists { HasLists self.bytes (tables_model tables.new) }
-        ensures moves { Moves 1 0 (min base (list_at (tables_model tables.old).lists 1).count) (tables_model tables.old) (tables_model tables.new) }
+        ensures moves { Moves 1 0 (min base (list_at (tables_model tables.old).lists 1).count) (tables_model tables.old)
+            (tables_model tables.new) }
         ensures own_entries { potential_stored (tables_model tables.new) 2 ≡ potential_stored (tables_model tables.old) 2 }
         ensures owns { potential_stored (tables_model tables.new) 3 ≡ potential_stored (tables_model tables.old) 3 }
         ensures formals { potential_stored (tables_model tables.new) 4 ≡ potential_stored (tables_model tables.old) 4 }
@@ -152,7 +160,8 @@ impl Lists {
     /// The entries of own quantities are to be written, behind a mark of this line.
     pub(crate) fn give_own_entries(self, tables: &mut Tables, line: u32)
         requires lists { HasLists self.bytes (tables_model tables.old) }
-        requires room { potential_stored (tables_model tables.old) 2 + potential_stored (tables_model tables.old) 0 ≤ 8 * self.bytes + 64 }
+        requires room { potential_stored (tables_model tables.old) 2 + potential_stored (tables_model tables.old) 0
+            ≤ 8 * self.bytes + 64 }
         requires line { line < 2 ^ 24 }
         ensures lists { HasLists self.bytes (tables_model tables.new) }
         ensures moves { Moves 2 0 0 (tables_model tables.old) (tables_model tables.new) }

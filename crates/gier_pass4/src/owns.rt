@@ -13,6 +13,7 @@ ghost use Rattle.gier_pass4.specs.Invariant.{StateInvariant, IsName, PreservesSt
 
 use crate::marks::ParseState;
 use crate::pass::Pass4;
+use gier_limits::FIRST_OWN_NAME;
 use gier_symbol::{Symbol, Tag};
 use gier_text::Tables;
 use gier_tree::Construct;
@@ -36,9 +37,6 @@ pub(crate) enum Owned {
     Unknown,
     Yes,
 }
-
-// The fresh identifier of the first own quantity.
-const FRESH: u64 = 1 << 32;
 
 impl Pass4 {
     /// Puts a symbol where those of the declaration, or of the text, go.
@@ -64,13 +62,14 @@ impl Pass4 {
     }
 
     /// The number of an own quantity, which stands behind its declaring place. With the first of a declaration it is known that the
-    /// declaration is an own one: it goes to the block around the program, with a `;` behind it that has the line of this identifier.
+    /// declaration is an own one: it goes to the block around the program, with a `;` behind it that has the line of this
+    /// identifier.
     pub(crate) fn own_number(&mut self, s: Symbol, tables: &mut Tables)
         requires ready { StateInvariant self.old (tables_model tables.old) 1 }
         requires line { s.line < 2 ^ 24 }
         ensures { PreservesState 1 self.old (tables_model tables.old) self.new (tables_model tables.new) }
     {
-        self.fresh = FRESH + cmp::min(s.value, u64::from(self.lists.bytes));
+        self.fresh = FIRST_OWN_NAME + cmp::min(s.value, u64::from(self.lists.bytes));
         if self.owned == Owned::Unknown {
             let semicolon = self.lists.plain(Tag::Semicolon, 0, s.line);
             self.lists.put_own(tables, semicolon);
@@ -151,8 +150,8 @@ impl Pass4 {
         }
     }
 
-    /// Writes the own declarations and the beginning of the block, where there is one, the program's entries from `base` on, and the
-    /// mark before the program.
+    /// Writes the own declarations and the beginning of the block, where there is one, the program's entries from `base` on, and
+    /// the mark before the program.
     pub(crate) fn begin_program(&mut self, s: Symbol, base: u32, tables: &mut Tables)
         requires ready { StateInvariant self.old (tables_model tables.old) 1 }
         requires letter { IsLetter self.old.lists.bytes s }

@@ -88,7 +88,8 @@ impl Pass4 {
     fn may_take(&self, s: Symbol) -> bool
         requires few { self.now.taken ≤ 8 * self.now.lists.bytes + 64 }
         requires bytes { self.now.lists.bytes ≤ 524288 }
-        ensures { result ≡ (nat_le (self.now.taken + potential_of 3 s.tag) (8 * self.now.lists.bytes + 64) && is_numbered 3 self.now.lists.bytes s) }
+        ensures { result ≡ (nat_le (self.now.taken + potential_of 3 s.tag) (8 * self.now.lists.bytes + 64)
+            && is_numbered 3 self.now.lists.bytes s) }
     {
         let light = self.taken + potential_of(s.tag) <= self.lists.most_weight();
         light && (!is_name(s.tag) || s.value < u64::from(self.lists.most_names()))

@@ -54,15 +54,16 @@ pub record PreservesState (pass : Pass5) (t : TablesModel) (new : Pass5) (u : Ta
   pub taken : new.taken ≡ pass.taken
   pub entry : new.entry ≡ pass.entry
 
--- the symbols that were taken weigh so much; those that are written are letters of text 5, and with the entry that is held they weigh
--- no more; their numbers of identifiers are as small as those that were taken
+-- the symbols that were taken weigh so much; those that are written are letters of text 5, and with the entry that is held they
+-- weigh no more; their numbers of identifiers are as small as those that were taken
 pub record PassInvariant (pass : Pass5) (t : TablesModel) (read written : List Symbol) : Type 0 where
   pub ready : StateInvariant pass t
   pub empty : (out_of t).count ≡ 0
   pub taken : pass.taken ≡ potential 4 read
   pub light : potential 5 written + potential_held pass.entry ≤ potential 4 read
   pub letters : All IsWritable written
-  pub numbered : All (λ s. IsTrue (is_numbered 4 pass.bytes s)) read → All (λ s. IsTrue (is_numbered 5 pass.bytes s)) written × IsHeldNumbered pass.bytes pass.entry
+  pub numbered : All (λ s. IsTrue (is_numbered 4 pass.bytes s)) read → All (λ s. IsTrue (is_numbered 5 pass.bytes s)) written
+      × IsHeldNumbered pass.bytes pass.entry
 
 -- what is written has no more weight than what was taken, and is letters of text 5; its numbers of identifiers are as small
 pub record Relates (pass : Pass5) (read written : List Symbol) : Type 0 where

@@ -2,7 +2,9 @@
 use Rattle.std.specs.Prelude.{◌==◌, ◌||◌, ◌&&◌, ℕ, Bool, true, false, nat_le, if◌then◌else◌}
 use Rattle.gier_tree.specs.Kinds.{kind_number}
 use Rattle.gier_tree.specs.declared.kind.Kind.{Kind}
-use Rattle.gier_tree.specs.declared.kind.Kind.TheVariants.{IntegerVariable, BooleanVariable, IntegerArray, BooleanArray, Label, Switch, Procedure as ProcedureKind, IntegerProcedure, BooleanProcedure, OutInteger, Sign}
+use Rattle.gier_tree.specs.declared.kind.Kind.TheVariants.{IntegerVariable, BooleanVariable, IntegerArray, BooleanArray, Label}
+use Rattle.gier_tree.specs.declared.kind.Kind.TheVariants.{Switch, Procedure as ProcedureKind, IntegerProcedure}
+use Rattle.gier_tree.specs.declared.kind.Kind.TheVariants.{BooleanProcedure, OutInteger, Sign}
 use Rattle.gier_pass5.specs.declared.kinds.Class.{Class}
 use Rattle.gier_pass5.specs.declared.kinds.Class.TheVariants.{Variable, Array, Numbered, Procedure, Function, Formal, Standard}
 

@@ -22,8 +22,8 @@ pub record Takes (pass : Pass5) (t : TablesModel) (new : Pass5) (u : TablesModel
   pub bytes : new.bytes ≡ pass.bytes
   pub taken : new.taken ≡ pass.taken
 
--- what waits then are letters of text 5; with the entry that is held they weigh no more than the symbol and what was held, and their
--- numbers of identifiers are as small
+-- what waits then are letters of text 5; with the entry that is held they weigh no more than the symbol and what was held, and
+-- their numbers of identifiers are as small
 pub record Steps (pass : Pass5) (t : TablesModel) (s : Symbol) (new : Pass5) (u : TablesModel) : Type 0 where
   pub ready : StateInvariant new u
   pub limit : u.limit ≡ t.limit
@@ -31,4 +31,5 @@ pub record Steps (pass : Pass5) (t : TablesModel) (s : Symbol) (new : Pass5) (u 
   pub taken : new.taken ≡ pass.taken + potential_of 4 s.tag
   pub letters : All IsWritable (outbox_symbols (out_of u))
   pub light : potential 5 (outbox_symbols (out_of u)) + potential_held new.entry ≤ potential_held pass.entry + potential_of 4 s.tag
-  pub numbered : IsTrue (is_numbered 4 pass.bytes s) → IsHeldNumbered pass.bytes pass.entry → All (λ x. IsTrue (is_numbered 5 pass.bytes x)) (outbox_symbols (out_of u)) × IsHeldNumbered pass.bytes new.entry
+  pub numbered : IsTrue (is_numbered 4 pass.bytes s) → IsHeldNumbered pass.bytes pass.entry
+      → All (λ x. IsTrue (is_numbered 5 pass.bytes x)) (outbox_symbols (out_of u)) × IsHeldNumbered pass.bytes new.entry

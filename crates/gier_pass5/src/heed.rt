@@ -45,7 +45,8 @@ impl Pass5 {
     /// Adds a fault at the symbol that was taken last.
     pub(crate) fn fault(&self, line: u32, kind: FaultKind, tables: &mut Tables)
         requires { StateInvariant self.now (tables_model tables.old) }
-        ensures adds { AddsWhereRoom self.now.bytes (tables_model tables.old) (record { position = self.now.position; line = line; kind = kind }) (tables_model tables.new) }
+        ensures adds { AddsWhereRoom self.now.bytes (tables_model tables.old)
+            (record { position = self.now.position; line = line; kind = kind }) (tables_model tables.new) }
         ensures judges { Judges self.now.bytes (tables_model tables.old) (tables_model tables.new) }
     {
         let fault = Fault {

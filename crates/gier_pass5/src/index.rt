@@ -8,6 +8,7 @@ ghost use Rattle.gier_text.specs.Lists.{list_at, word_at, with_word};
 ghost use Rattle.gier_pass5.specs.Index.{row_at, OpensIndex};
 ghost use Rattle.gier_pass5.specs.Lists.{HasLists, Keeps, row_count};
 
+use gier_limits::{FIRST_OWN_NAME, STANDARD_NAMES};
 use gier_text::Tables;
 
 // The list of rows.
@@ -17,12 +18,6 @@ const WIDTH: u8 = 1;
 
 const ENTRY: u8 = 0;
 
-// Room for the standard identifiers.
-const STANDARD_ROOM: u32 = 64;
-
-// The fresh identifiers are numbered from here.
-const FIRST_FRESH: u64 = 1 << 32;
-
 /// Opens the index of a program of so many bytes, without any entry.
 pub(crate) fn open(tables: &mut Tables, bytes: u32)
     requires lists { length (tables_model tables.old).lists ≡ 3 }
@@ -30,7 +25,7 @@ pub(crate) fn open(tables: &mut Tables, bytes: u32)
     requires fits { (tables_model tables.old).used + (2 * bytes + 65) ≤ 62 * (tables_model tables.old).limit + 4092 }
     ensures { OpensIndex (2 * bytes + 65) (2 * bytes + 65) (tables_model tables.old) (tables_model tables.new) }
 {
-    let rows = 2 * bytes + STANDARD_ROOM + 1;
+    let rows = 2 * bytes + STANDARD_NAMES + 1;
     tables.list(WIDTH, rows);
     for _ in 0..rows {
         tables.push(INDEX, &[0]);
@@ -43,12 +38,12 @@ pub(crate) fn row_of(number: u64, bytes: u32) -> Option<u32>
     ensures value { result ≡ row_at number bytes }
     ensures within { IfSome result (λ row. row < 2 * bytes + 65) }
 {
-    let named = bytes + STANDARD_ROOM;
+    let named = bytes + STANDARD_NAMES;
     if number < u64::from(named) {
         return Some(number as u32);
     }
-    if number >= FIRST_FRESH && number - FIRST_FRESH <= u64::from(bytes) {
-        return Some(named + (number - FIRST_FRESH) as u32);
+    if number >= FIRST_OWN_NAME && number - FIRST_OWN_NAME <= u64::from(bytes) {
+        return Some(named + (number - FIRST_OWN_NAME) as u32);
     }
     None
 }
@@ -68,7 +63,8 @@ pub(crate) fn set(tables: &mut Tables, row: u32, word: u64)
     requires lists { HasLists (tables_model tables.old) }
     requires row { row < row_count (tables_model tables.old) }
     requires small { word < 2 ^ 40 }
-    ensures value { tables_model tables.new ≡ with_at (tables_model tables.old) 3 (with_word (list_at (tables_model tables.old).lists 3) row 0 word) }
+    ensures value { tables_model tables.new
+        ≡ with_at (tables_model tables.old) 3 (with_word (list_at (tables_model tables.old).lists 3) row 0 word) }
     ensures keeps { Keeps (tables_model tables.old) (tables_model tables.new) }
 {
     tables.set_word(INDEX, row, ENTRY, word);

@@ -1,6 +1,7 @@
 // Scopes: each used identifier gets the description, place and count of what it means.
 #![tactic(auto)]
 
+mod binding;
 mod entries;
 mod faults;
 mod heed;
@@ -8,7 +9,6 @@ mod index;
 mod kinds;
 mod links;
 mod marks;
-mod binding;
 mod outbox;
 mod pass;
 mod places;

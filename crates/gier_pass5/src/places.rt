@@ -4,9 +4,7 @@ ghost use Rattle.gier_pass5.specs.Kinds.{class_at};
 ghost use Rattle.gier_pass5.specs.Places.{behind, place_at, words_of, numbers_of};
 
 use crate::kinds::{Class, class_at};
-
-// Addresses and numbers are below this one, and a level counts so much.
-const ADDRESSES: u64 = 1 << 24;
+use gier_limits::ADDRESSES;
 
 const GREATEST: u64 = ADDRESSES - 1;
 

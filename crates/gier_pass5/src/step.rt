@@ -12,8 +12,8 @@ ghost use Rattle.gier_pass5.specs.Invariant.{StateInvariant, TakingInvariant};
 ghost use Rattle.gier_pass5.specs.Steps.{Steps, Takes, entry_and_description};
 ghost use Rattle.gier_pass5.specs.Uses.{symbols_of};
 
-use crate::entries::{self, Field, SymbolEntry};
 use crate::binding::Binding;
+use crate::entries::{self, Field, SymbolEntry};
 use crate::outbox::emit;
 use crate::pass::{Pass5, is, potential_of};
 use crate::uses::{meant_by, nothing, put_use};
@@ -70,7 +70,8 @@ impl Pass5 {
         requires taking { TakingInvariant self.now (tables_model tables.old) }
         requires empty { (out_of (tables_model tables.old)).count ≡ 0 }
         requires symbol { IsSymbol s }
-        ensures { (meant : Binding) × Takes self.now (tables_model tables.old) self.now (tables_model tables.new) (symbols_of meant s.line) }
+        ensures { (meant : Binding) × Takes self.now (tables_model tables.old) self.now (tables_model tables.new)
+            (symbols_of meant s.line) }
     {
         let meant = self.meant(s, tables);
         put_use(meant, s.line, tables);
@@ -96,7 +97,8 @@ impl Pass5 {
         requires taking { TakingInvariant self.old (tables_model tables.old) }
         requires empty { (out_of (tables_model tables.old)).count ≡ 0 }
         requires symbol { IsSymbol s }
-        ensures takes { Takes self.old (tables_model tables.old) self.new (tables_model tables.new) (entry_and_description self.old.entry s) }
+        ensures takes { Takes self.old (tables_model tables.old) self.new (tables_model tables.new)
+            (entry_and_description self.old.entry s) }
         ensures entry { self.new.entry ≡ None }
     {
         match self.entry {

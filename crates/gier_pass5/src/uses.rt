@@ -7,9 +7,9 @@ ghost use Rattle.gier_tree.specs.declared.kind.Kind.TheVariants.{Undeclared};
 ghost use Rattle.gier_pass5.specs.Lists.{HasLists, Emits, out_of, entry_count};
 ghost use Rattle.gier_pass5.specs.Uses.{symbols_of};
 
+use crate::binding::Binding;
 use crate::entries::{self, Field};
 use crate::kinds::has_count;
-use crate::binding::Binding;
 use crate::outbox::emit;
 use gier_symbol::{Symbol, Tag};
 use gier_text::Tables;

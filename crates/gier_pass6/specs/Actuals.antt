@@ -5,7 +5,11 @@ use Rattle.gier_pass6.specs.declared.actuals.Fit.TheVariants.{Anything, Free, Fo
 use Rattle.gier_pass6.specs.declared.actuals.Passed.{Passed}
 use Rattle.gier_pass6.specs.declared.actuals.Passed.TheVariants.{Fits, Calls, Differs}
 use Rattle.gier_pass6.specs.declared.kind.Kind.{Kind}
-use Rattle.gier_pass6.specs.declared.kind.Kind.TheVariants.{IntegerArray, BooleanArray, Switch, Procedure, IntegerProcedure, BooleanProcedure, IntegerArrayFormal, BooleanArrayFormal, LabelFormal, SwitchFormal, StringFormal, ProcedureFormal, IntegerProcedureFormal, BooleanProcedureFormal, OutInteger, OutText, OutCr, OutChar, InInteger, InChar, Abs, Sign}
+use Rattle.gier_pass6.specs.declared.kind.Kind.TheVariants.{IntegerArray, BooleanArray, Switch, Procedure, IntegerProcedure}
+use Rattle.gier_pass6.specs.declared.kind.Kind.TheVariants.{BooleanProcedure, IntegerArrayFormal, BooleanArrayFormal}
+use Rattle.gier_pass6.specs.declared.kind.Kind.TheVariants.{LabelFormal, SwitchFormal, StringFormal, ProcedureFormal}
+use Rattle.gier_pass6.specs.declared.kind.Kind.TheVariants.{IntegerProcedureFormal, BooleanProcedureFormal, OutInteger, OutText}
+use Rattle.gier_pass6.specs.declared.kind.Kind.TheVariants.{OutCr, OutChar, InInteger, InChar, Abs, Sign}
 use Rattle.gier_pass6.specs.declared.types.ValueType.{ValueType}
 use Rattle.gier_pass6.specs.declared.types.ValueType.TheVariants.{Unknown, Label, Text}
 use Rattle.gier_pass6.specs.declared.uses.Meaning.{Meaning}

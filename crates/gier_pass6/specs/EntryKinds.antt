@@ -1,7 +1,11 @@
 -- What entries of the stack stand for: the numbers that keep it.
 use Rattle.std.specs.Prelude.{ℕ}
 use Rattle.gier_pass6.specs.declared.open.EntryKind.{EntryKind}
-use Rattle.gier_pass6.specs.declared.open.EntryKind.TheVariants.{Nothing, Operator, FaultyOperator, Parenthesis, LeftPart, Element, LeftElement, Callee, Wanted, FaultyWanted, Bracket, Call, Plain, Block, Segment, Procedure, IfStatement, Actual, Subscript, Bound, SwitchElement, ForElement, WhileElement, Goto, Conditional}
+use Rattle.gier_pass6.specs.declared.open.EntryKind.TheVariants.{Nothing, Operator, FaultyOperator, Parenthesis, LeftPart}
+use Rattle.gier_pass6.specs.declared.open.EntryKind.TheVariants.{Element, LeftElement, Callee, Wanted, FaultyWanted, Bracket}
+use Rattle.gier_pass6.specs.declared.open.EntryKind.TheVariants.{Call, Plain, Block, Segment, Procedure, IfStatement, Actual}
+use Rattle.gier_pass6.specs.declared.open.EntryKind.TheVariants.{Subscript, Bound, SwitchElement, ForElement, WhileElement}
+use Rattle.gier_pass6.specs.declared.open.EntryKind.TheVariants.{Goto, Conditional}
 
 abbrev pub number_of : EntryKind → ℕ
 number_of Nothing = 0

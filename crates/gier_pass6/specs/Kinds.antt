@@ -1,7 +1,13 @@
 -- The numbers of the kinds of identifiers, as descriptions tell them.
 use Rattle.std.specs.Prelude.{ℕ}
 use Rattle.gier_pass6.specs.declared.kind.Kind.{Kind}
-use Rattle.gier_pass6.specs.declared.kind.Kind.TheVariants.{Undeclared, IntegerVariable, BooleanVariable, IntegerArray, BooleanArray, Label, Switch, Procedure, IntegerProcedure, BooleanProcedure, IntegerValue, BooleanValue, IntegerFormal, BooleanFormal, IntegerArrayFormal, BooleanArrayFormal, LabelFormal, SwitchFormal, StringFormal, ProcedureFormal, IntegerProcedureFormal, BooleanProcedureFormal, OutInteger, OutText, OutCr, OutChar, InInteger, InChar, Abs, Sign}
+use Rattle.gier_pass6.specs.declared.kind.Kind.TheVariants.{Undeclared, IntegerVariable, BooleanVariable, IntegerArray}
+use Rattle.gier_pass6.specs.declared.kind.Kind.TheVariants.{BooleanArray, Label, Switch, Procedure, IntegerProcedure}
+use Rattle.gier_pass6.specs.declared.kind.Kind.TheVariants.{BooleanProcedure, IntegerValue, BooleanValue, IntegerFormal}
+use Rattle.gier_pass6.specs.declared.kind.Kind.TheVariants.{BooleanFormal, IntegerArrayFormal, BooleanArrayFormal, LabelFormal}
+use Rattle.gier_pass6.specs.declared.kind.Kind.TheVariants.{SwitchFormal, StringFormal, ProcedureFormal, IntegerProcedureFormal}
+use Rattle.gier_pass6.specs.declared.kind.Kind.TheVariants.{BooleanProcedureFormal, OutInteger, OutText, OutCr, OutChar}
+use Rattle.gier_pass6.specs.declared.kind.Kind.TheVariants.{InInteger, InChar, Abs, Sign}
 
 abbrev pub number_of : Kind → ℕ
 number_of Undeclared = 0

@@ -1,7 +1,9 @@
 -- The types of expressions, and for each operator how strongly it binds, what it takes and what it gives.
 use Rattle.std.specs.Prelude.{ℕ, Bool, true, false, if◌then◌else◌, Option, None, Some}
 use Rattle.gier_symbol.specs.declared.tag.Tag.{Tag}
-use Rattle.gier_symbol.specs.declared.tag.Tag.TheVariants.{Plus, Minus, Times, Div, Power, Less, NotGreater, Equal, NotLess, Greater, NotEqual, Not, And, Or, Impl, Equiv, LeadingPlus, LeadingMinus}
+use Rattle.gier_symbol.specs.declared.tag.Tag.TheVariants.{Plus, Minus, Times, Div, Power, Less, NotGreater, Equal, NotLess}
+use Rattle.gier_symbol.specs.declared.tag.Tag.TheVariants.{Greater, NotEqual, Not, And, Or, Impl, Equiv, LeadingPlus}
+use Rattle.gier_symbol.specs.declared.tag.Tag.TheVariants.{LeadingMinus}
 use Rattle.gier_pass6.specs.declared.types.ValueType.{ValueType}
 use Rattle.gier_pass6.specs.declared.types.ValueType.TheVariants.{Unknown, Integer, Boolean, Label, Text}
 use Rattle.gier_pass6.specs.declared.types.Row.{Row}

@@ -1,6 +1,7 @@
 // Which actual fits which formal.
 ghost use Rattle.std.specs.Prelude.{◌≡◌};
-ghost use Rattle.gier_pass6.specs.Actuals.{fit_number, wanted_type, value_fits, fits_if, name_fits_free, is_same_thing, meaning_fits, name_fits_formal, name_fits};
+ghost use Rattle.gier_pass6.specs.Actuals.{fit_number, wanted_type, value_fits, fits_if, name_fits_free, is_same_thing};
+ghost use Rattle.gier_pass6.specs.Actuals.{meaning_fits, name_fits_formal, name_fits};
 
 use crate::kind::{Kind, is_procedure, is_procedure_formal};
 use crate::types::{ValueType, agree};

@@ -2,7 +2,7 @@
 ghost use Rattle.gier_symbol.specs.Symbols.{IsSymbol};
 ghost use Rattle.gier_text.specs.TablesModel.{tables_model};
 
-use crate::open::{StackEntry, STACK, EntryKind};
+use crate::open::{EntryKind, STACK, StackEntry};
 use crate::state::State;
 use crate::types::operator;
 use gier_symbol::{Symbol, Tag};
@@ -19,7 +19,8 @@ fn tag_of(number: u64) -> Option<Tag> {
 // Whether the entry is an operator that binds at least as strongly as this level.
 fn binds(top: StackEntry, level: u8) -> bool {
     match top.what {
-        EntryKind::Operator | EntryKind::FaultyOperator => operator(tag_of(top.data)).level >= level,
+        EntryKind::Operator | EntryKind::FaultyOperator => operator(tag_of(top.data)).level
+            >= level,
         _ => false,
     }
 }
@@ -69,7 +70,12 @@ impl State {
             return;
         }
         self.raise(tables, FaultKind::Operand, spot);
-        self.open_one(tables, EntryKind::FaultyOperator, u64::from(tag.number()), spot);
+        self.open_one(
+            tables,
+            EntryKind::FaultyOperator,
+            u64::from(tag.number()),
+            spot,
+        );
     }
 
     // An operator before its only operand.

@@ -1,4 +1,5 @@
-// What the entries of scopes tell: the kind of each identifier, and for each procedure its formals and whether its declaration is open.
+// What the entries of scopes tell: the kind of each identifier, and for each procedure its formals and whether its declaration is
+// open.
 ghost use Rattle.std.specs.Prelude.{◌≡◌, ◌<◌, ◌^◌, ◌&&◌, nat_lt, IsTrue};
 ghost use Rattle.gier_text.specs.TablesModel.{tables_model};
 ghost use Rattle.gier_text.specs.Lists.{list_at};

@@ -5,8 +5,8 @@ ghost use Rattle.gier_text.specs.TablesModel.{tables_model};
 
 use crate::actuals::{Fit, is_free, value_fits};
 use crate::kind::{Kind, is_procedure};
-use crate::open::{StackEntry, Location, EntryKind, short};
-use crate::places::{Context, PendingName, Name};
+use crate::open::{EntryKind, Location, StackEntry, short};
+use crate::places::{Context, Name, PendingName};
 use crate::state::State;
 use crate::types::ValueType;
 use crate::uses::{
@@ -119,8 +119,8 @@ impl State {
         count
     }
 
-    // A subscript or actual that has ended doesn't fit. The fault stands at the symbol before it. At the opening bracket it waits for the
-    // number, and where the list is too long, that is the fault there.
+    // A subscript or actual that has ended doesn't fit. The fault stands at the symbol before it. At the opening bracket it waits
+    // for the number, and where the list is too long, that is the fault there.
     pub(crate) fn misfit(&mut self, tables: &mut Tables, most: u64, kind: FaultKind, spot: Location)
         requires ready { StateInvariant self.old (tables_model tables.old) }
         ensures { PreservesState self.old (tables_model tables.old) self.new (tables_model tables.new) }

@@ -5,8 +5,8 @@ ghost use Rattle.gier_text.specs.TablesModel.{tables_model};
 use crate::actuals::Fit;
 use crate::heads::NO_NUMBER;
 use crate::lists::{MOST_ACTUALS, MOST_SUBSCRIPTS};
-use crate::open::{StackEntry, EntryKind};
-use crate::places::{Context, PendingName, Name, SWITCH_MARK, construct};
+use crate::open::{EntryKind, StackEntry};
+use crate::places::{Context, Name, PendingName, SWITCH_MARK, construct};
 use crate::state::State;
 use crate::types::{ValueType, joined};
 use gier_symbol::Symbol;
@@ -79,7 +79,10 @@ impl State {
         let what = construct(s.value);
         let top = self.open_at(tables, 0);
         if let PendingName::Name(name) = self.held {
-            if what == EntryKind::Actual && top.what == EntryKind::Actual && name.at == Context::Actual {
+            if what == EntryKind::Actual
+                && top.what == EntryKind::Actual
+                && name.at == Context::Actual
+            {
                 self.held = PendingName::Nothing;
                 self.close_alone(tables, name, top);
                 self.write(tables, s);
@@ -90,7 +93,9 @@ impl State {
         self.finish(tables, 0);
         self.assignment_ends(tables);
         let top = self.open_at(tables, 0);
-        if top.what == what || (what == EntryKind::ForElement && top.what == EntryKind::WhileElement) {
+        if top.what == what
+            || (what == EntryKind::ForElement && top.what == EntryKind::WhileElement)
+        {
             self.pop(tables, 1);
             self.close(tables, top);
         }

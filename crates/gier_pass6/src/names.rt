@@ -5,16 +5,14 @@ ghost use Rattle.gier_text.specs.TablesModel.{tables_model};
 
 use crate::actuals::{Fit, Passed, name_fits};
 use crate::kind::Kind;
-use crate::open::{StackEntry, Location, EntryKind};
-use crate::places::{Context, PendingName, Name};
+use crate::open::{EntryKind, Location, StackEntry};
+use crate::places::{Context, Name, PendingName};
 use crate::state::State;
 use crate::types::ValueType;
 use crate::uses::{alone, function_type, may_be_controlled, may_be_statement, value_type};
+use gier_limits::ADDRESSES;
 use gier_symbol::{Symbol, Tag};
 use gier_text::{FaultKind, Tables};
-
-// What a place is multiplied by for the level.
-const LEVEL: u64 = 1 << 24;
 
 impl State {
     ghost use Rattle.gier_pass6.specs.StateInvariants.{StateInvariant, PreservesState};
@@ -40,7 +38,7 @@ impl State {
     {
         if let PendingName::Name(name) = self.held {
             self.held = PendingName::Name(Name {
-                number: s.value % LEVEL,
+                number: s.value % ADDRESSES,
                 ..name
             });
         }

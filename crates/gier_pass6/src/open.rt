@@ -1,4 +1,5 @@
-// What is open while symbols are taken: a stack of operators, brackets and constructs, each with the symbol at which a fault would stand.
+// What is open while symbols are taken: a stack of operators, brackets and constructs, each with the symbol at which a fault would
+// stand.
 ghost use Rattle.std.specs.Prelude.{◌≡◌, ◌<◌, ◌≤◌, ◌*◌, ◌+◌, ◌^◌};
 ghost use Rattle.gier_text.specs.TablesModel.{tables_model};
 ghost use Rattle.gier_pass6.specs.EntryKinds.{number_of};

@@ -10,12 +10,10 @@ use crate::open::STACK_WIDTH;
 use crate::places::{Context, PendingName};
 use crate::state::{OUTBOX, State, numbered_room, room};
 use crate::types::ValueType;
+use gier_limits::STANDARD_NAMES;
 use gier_symbol::{Alphabet, Coded, Symbol, Tag};
 use gier_text::{OUTBOX_WIDTH, Pass, PassStop, Tables, Text, flush};
 use gier_word::Odd;
-
-// Identifiers have numbers below the bytes and this, apart from own quantities.
-const STANDARD_ROOM: u32 = 64;
 
 /// Pass 6: takes text 5 forward, and writes text 6.
 ///
@@ -39,10 +37,10 @@ impl Pass6 {
     {
         tables.list(OUTBOX_WIDTH, room(bytes));
         tables.list(STACK_WIDTH, room(bytes));
-        tables.list(WORD_WIDTH, bytes + STANDARD_ROOM);
+        tables.list(WORD_WIDTH, bytes + STANDARD_NAMES);
         tables.list(WORD_WIDTH, numbered_room(bytes));
         tables.list(WORD_WIDTH, room(bytes));
-        for _turn in 0..bytes + STANDARD_ROOM {
+        for _turn in 0..bytes + STANDARD_NAMES {
             tables.push(NAMES, &[0]);
         }
         Pass6 {

@@ -1,6 +1,6 @@
 // Where an identifier stands, and what is held of it until the symbol behind it tells how it is used.
 use crate::kind::Kind;
-use crate::open::{StackEntry, Location, EntryKind};
+use crate::open::{EntryKind, Location, StackEntry};
 use crate::types::ValueType;
 use gier_symbol::Tag;
 

@@ -8,6 +8,7 @@ ghost use Rattle.gier_pass6.specs.StateInvariants.{IsWritable};
 use crate::open::{LAST_WORD, Location};
 use crate::places::{Context, PendingName};
 use crate::types::ValueType;
+use gier_limits::FIRST_OWN_NAME;
 use gier_symbol::{Symbol, Tag, stands_in};
 use gier_text::{Fault, FaultKind, Tables, put};
 use std::cmp;
@@ -56,14 +57,14 @@ pub(crate) fn numbered_room(bytes: u32) -> u32
 // Names in text 6 have numbers below the bytes and this, and own quantities from this on.
 const STANDARD: u64 = 64;
 
-const OWN: u64 = 1 << 32;
-
 // Whether the value of an identifier is the number of one.
 fn is_numbered(bytes: u32, s: Symbol) -> bool
     ensures { result ≡ is_numbered 6 bytes s }
 {
     let bytes = u64::from(bytes);
-    !is_name(s.tag) || s.value < bytes + STANDARD || (OWN <= s.value && s.value < OWN + bytes + 1)
+    !is_name(s.tag)
+        || s.value < bytes + STANDARD
+        || (FIRST_OWN_NAME <= s.value && s.value < FIRST_OWN_NAME + bytes + 1)
 }
 
 fn is_name(tag: u16) -> bool

@@ -2,7 +2,7 @@
 ghost use Rattle.gier_symbol.specs.Symbols.{IsSymbol};
 ghost use Rattle.gier_text.specs.TablesModel.{tables_model};
 
-use crate::open::{StackEntry, STACK, Location, EntryKind};
+use crate::open::{EntryKind, Location, STACK, StackEntry};
 use crate::state::State;
 use crate::types::ValueType;
 use gier_symbol::{Symbol, Tag};
@@ -30,7 +30,13 @@ impl State {
     }
 
     // Adds a fault where the value that ended isn't of the type.
-    pub(crate) fn want(&self, tables: &mut Tables, value: ValueType, kind: FaultKind, spot: Location)
+    pub(crate) fn want(
+        &self,
+        tables: &mut Tables,
+        value: ValueType,
+        kind: FaultKind,
+        spot: Location,
+    )
         requires ready { StateInvariant self.now (tables_model tables.old) }
         ensures { PreservesState self.now (tables_model tables.old) self.now (tables_model tables.new) }
     {
@@ -63,7 +69,9 @@ impl State {
         ensures { PreservesState self.old (tables_model tables.old) self.new (tables_model tables.new) }
     {
         match self.open_at(tables, 0).what {
-            EntryKind::IfStatement | EntryKind::Conditional | EntryKind::Goto => self.place_top(tables, s),
+            EntryKind::IfStatement | EntryKind::Conditional | EntryKind::Goto => self.place_top(
+                tables, s,
+            ),
             _ => {}
         }
         self.write(tables, s);

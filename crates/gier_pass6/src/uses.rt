@@ -1,7 +1,8 @@
-// What each use of an identifier allows, by its kind and the number of its dimensions or formals. An unknown type means that the use
-// is a fault of kind.
+// What each use of an identifier allows, by its kind and the number of its dimensions or formals. An unknown type means that the
+// use is a fault of kind.
 ghost use Rattle.std.specs.Prelude.{◌≡◌};
-ghost use Rattle.gier_pass6.specs.Uses.{value_type, function_type, meaning_alone, may_stand, may_be_statement, element_type, subscripts_of, may_be_called, formals_of, standard_formal, may_be_controlled};
+ghost use Rattle.gier_pass6.specs.Uses.{value_type, function_type, meaning_alone, may_stand, may_be_statement, element_type};
+ghost use Rattle.gier_pass6.specs.Uses.{subscripts_of, may_be_called, formals_of, standard_formal, may_be_controlled};
 
 use crate::kind::{Kind, is_procedure, is_procedure_formal};
 use crate::types::ValueType;

@@ -1,9 +1,21 @@
 -- What the kinds of identifiers mean for code.
 use Rattle.std.specs.Prelude.{ℕ, Bool, true, false, Option, None, Some}
 use Rattle.gier_tree.specs.declared.kind.Kind.{Kind}
-use Rattle.gier_tree.specs.declared.kind.Kind.TheVariants.{Undeclared, IntegerVariable, BooleanVariable, IntegerArray, BooleanArray, Label, Switch, Procedure, IntegerProcedure, BooleanProcedure, IntegerValue, BooleanValue, IntegerFormal, BooleanFormal, IntegerArrayFormal, BooleanArrayFormal, LabelFormal, SwitchFormal, StringFormal, ProcedureFormal, IntegerProcedureFormal, BooleanProcedureFormal, OutInteger, OutText, OutCr, OutChar, InInteger, InChar, Abs, Sign}
+use Rattle.gier_tree.specs.declared.kind.Kind.TheVariants.{Undeclared, IntegerVariable, BooleanVariable, IntegerArray}
+use Rattle.gier_tree.specs.declared.kind.Kind.TheVariants.{BooleanArray, Label, Switch, Procedure, IntegerProcedure}
+use Rattle.gier_tree.specs.declared.kind.Kind.TheVariants.{BooleanProcedure, IntegerValue, BooleanValue, IntegerFormal}
+use Rattle.gier_tree.specs.declared.kind.Kind.TheVariants.{BooleanFormal, IntegerArrayFormal, BooleanArrayFormal, LabelFormal}
+use Rattle.gier_tree.specs.declared.kind.Kind.TheVariants.{SwitchFormal, StringFormal, ProcedureFormal, IntegerProcedureFormal}
+use Rattle.gier_tree.specs.declared.kind.Kind.TheVariants.{BooleanProcedureFormal, OutInteger, OutText, OutCr, OutChar}
+use Rattle.gier_tree.specs.declared.kind.Kind.TheVariants.{InInteger, InChar, Abs, Sign}
 use Rattle.gier_agree.specs.declared.kind.Kind.{Kind as Agreed}
-use Rattle.gier_agree.specs.declared.kind.Kind.TheVariants.{IntegerByValue as AnIntegerByValue, BooleanByValue as ABooleanByValue, Integer as AnInteger, Boolean as ABoolean, Label as ALabel, IntegerArray as AnIntegerArray, BooleanArray as ABooleanArray, Switch as ASwitch, String as AString, Procedure as AProcedure, IntegerProcedure as AnIntegerProcedure, BooleanProcedure as ABooleanProcedure}
+use Rattle.gier_agree.specs.declared.kind.Kind.TheVariants.{IntegerByValue as AnIntegerByValue}
+use Rattle.gier_agree.specs.declared.kind.Kind.TheVariants.{BooleanByValue as ABooleanByValue, Integer as AnInteger}
+use Rattle.gier_agree.specs.declared.kind.Kind.TheVariants.{Boolean as ABoolean, Label as ALabel}
+use Rattle.gier_agree.specs.declared.kind.Kind.TheVariants.{IntegerArray as AnIntegerArray, BooleanArray as ABooleanArray}
+use Rattle.gier_agree.specs.declared.kind.Kind.TheVariants.{Switch as ASwitch, String as AString, Procedure as AProcedure}
+use Rattle.gier_agree.specs.declared.kind.Kind.TheVariants.{IntegerProcedure as AnIntegerProcedure}
+use Rattle.gier_agree.specs.declared.kind.Kind.TheVariants.{BooleanProcedure as ABooleanProcedure}
 use Rattle.gier_agree.specs.Kinds.{number_of}
 use Rattle.gier_pass7.specs.declared.kinds.ValueType.{ValueType}
 use Rattle.gier_pass7.specs.declared.kinds.ValueType.TheVariants.{Unknown, Integer, Boolean, Label as LabelType, Text}

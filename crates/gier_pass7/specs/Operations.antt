@@ -1,8 +1,12 @@
 -- The orders and the types of operators.
 use Rattle.std.specs.Prelude.{Option, Some}
-use Rattle.gier_order.specs.declared.operation.Operation.TheVariants.{Add, Sub, Mul, Div as DivOrder, Pow, Lt, Le, Eq, Ge, Gt, Ne, And as AndOrder, Or as OrOrder, Impl as ImplOrder, Equiv as EquivOrder, Not as NotOrder, Neg}
+use Rattle.gier_order.specs.declared.operation.Operation.TheVariants.{Add, Sub, Mul, Div as DivOrder, Pow, Lt, Le, Eq, Ge, Gt}
+use Rattle.gier_order.specs.declared.operation.Operation.TheVariants.{Ne, And as AndOrder, Or as OrOrder, Impl as ImplOrder}
+use Rattle.gier_order.specs.declared.operation.Operation.TheVariants.{Equiv as EquivOrder, Not as NotOrder, Neg}
 use Rattle.gier_symbol.specs.declared.tag.Tag.{Tag}
-use Rattle.gier_symbol.specs.declared.tag.Tag.TheVariants.{Plus, Minus, Times, Div, Power, Less, NotGreater, Equal, NotLess, Greater, NotEqual, And, Or, Impl, Equiv, Not, LeadingPlus, LeadingMinus}
+use Rattle.gier_symbol.specs.declared.tag.Tag.TheVariants.{Plus, Minus, Times, Div, Power, Less, NotGreater, Equal, NotLess}
+use Rattle.gier_symbol.specs.declared.tag.Tag.TheVariants.{Greater, NotEqual, And, Or, Impl, Equiv, Not, LeadingPlus}
+use Rattle.gier_symbol.specs.declared.tag.Tag.TheVariants.{LeadingMinus}
 use Rattle.gier_pass7.specs.declared.kinds.ValueType.{ValueType}
 use Rattle.gier_pass7.specs.declared.kinds.ValueType.TheVariants.{Integer, Boolean}
 use Rattle.gier_pass7.specs.declared.operations.Operator.{Operator}

@@ -8,8 +8,8 @@ use crate::kinds::{
     actual_of_name, actual_of_value, formal_kind, is_array, is_array_formal, is_cell, is_name,
     is_procedure, is_procedure_formal, is_value, packed_number,
 };
-use crate::names::{PendingName, Name, address_in, level_in};
-use crate::open::{StackEntry, EntryKind};
+use crate::names::{Name, PendingName, address_in, level_in};
+use crate::open::{EntryKind, StackEntry};
 use crate::state::State;
 use gier_order::Operation;
 use gier_text::Tables;

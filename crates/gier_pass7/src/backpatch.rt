@@ -6,11 +6,9 @@ ghost use Rattle.gier_pass7.specs.Codes.{relocated_label};
 use crate::lists::{head_at, set_outbox, value_at};
 use crate::orders::tag_in;
 use crate::state::State;
+use gier_limits::ADDRESSES;
 use gier_symbol::Tag;
 use gier_text::Tables;
-
-// All label numbers are below this, and an order with one has the number below a multiple of it.
-const LABELS: u64 = 1 << 24;
 
 /// The labels of a switch's elements are numbered before those within them, whose numbers are this much too great until it is known
 /// how many elements there are.
@@ -36,7 +34,7 @@ fn moved_value(tag: u64, value: u64, first: u64, target: u64) -> u64 {
     if is_tag(tag, Tag::LabelPlace) || is_tag(tag, Tag::LabelWord) {
         moved(value, first, target)
     } else if is_tag(tag, Tag::LabelOrder) {
-        let label = value % LABELS;
+        let label = value % ADDRESSES;
         (value - label).saturating_add(moved(label, first, target))
     } else {
         value
@@ -46,7 +44,8 @@ fn moved_value(tag: u64, value: u64, first: u64, target: u64) -> u64 {
 impl State {
     ghost use Rattle.gier_pass7.specs.StateInvariants.{StateInvariant, PreservesState};
 
-    // Moves what waits from a place on by so many entries, and gives the labels from the first one on there numbers from the target on.
+    // Moves what waits from a place on by so many entries, and gives the labels from the first one on there numbers from the target
+    // on.
     pub(crate) fn gap(&mut self, tables: &mut Tables, at: u64, count: u64, first: u64, target: u64)
         requires ready { StateInvariant self.old (tables_model tables.old) }
         ensures { PreservesState self.old (tables_model tables.old) self.new (tables_model tables.new) }

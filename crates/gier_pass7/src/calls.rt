@@ -4,7 +4,7 @@ ghost use Rattle.gier_text.specs.TablesModel.{tables_model};
 
 use crate::kinds::{is_procedure, is_procedure_formal, library_number, value_type};
 use crate::names::{Name, address_in};
-use crate::open::{NOTHING, StackEntry, EntryKind};
+use crate::open::{EntryKind, NOTHING, StackEntry};
 use crate::state::State;
 use gier_order::Operation;
 use gier_text::Tables;

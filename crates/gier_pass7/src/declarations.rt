@@ -2,12 +2,12 @@
 ghost use Rattle.std.specs.Prelude.{◌≡◌};
 ghost use Rattle.gier_text.specs.TablesModel.{tables_model};
 
+use crate::backpatch::FORWARD_LABELS;
 use crate::calls::FORMAL_WORDS;
 use crate::evaluations::Thunk;
-use crate::backpatch::FORWARD_LABELS;
 use crate::kinds::{is_numbered, kind_of};
 use crate::lists::{DESCRIPTIONS, NUMBERED, len, push_word, word_at};
-use crate::open::{NOTHING, StackEntry, EntryKind};
+use crate::open::{EntryKind, NOTHING, StackEntry};
 use crate::state::State;
 use gier_order::Operation;
 use gier_text::Tables;

@@ -3,8 +3,8 @@ ghost use Rattle.std.specs.Prelude.{◌≡◌};
 ghost use Rattle.gier_text.specs.TablesModel.{tables_model};
 
 use crate::kinds::{is_switch, value_type};
-use crate::names::{PendingName, Name};
-use crate::open::{NOTHING, StackEntry, EntryKind};
+use crate::names::{Name, PendingName};
+use crate::open::{EntryKind, NOTHING, StackEntry};
 use crate::state::State;
 use gier_order::Operation;
 use gier_text::Tables;

@@ -4,7 +4,7 @@ ghost use Rattle.gier_text.specs.TablesModel.{tables_model};
 
 use crate::kinds::{ValueType, is_cell, is_evaluated, is_name};
 use crate::names::Name;
-use crate::open::{StackEntry, EntryKind};
+use crate::open::{EntryKind, StackEntry};
 use crate::orders::packed;
 use crate::state::State;
 use gier_order::Operation;

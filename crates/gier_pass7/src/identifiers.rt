@@ -3,7 +3,7 @@ ghost use Rattle.std.specs.Prelude.{◌≡◌};
 ghost use Rattle.gier_text.specs.TablesModel.{tables_model};
 
 use crate::kinds::{is_array, is_name, is_procedure, value_type};
-use crate::names::{PendingName, Name, address_in, level_in};
+use crate::names::{Name, PendingName, address_in, level_in};
 use crate::open::EntryKind;
 use crate::state::State;
 use gier_order::Operation;

@@ -1,6 +1,8 @@
 // What the kinds of identifiers mean for code: groups of kinds, types of values, and the kinds at calls of formal procedures.
 ghost use Rattle.std.specs.Prelude.{◌≡◌};
-ghost use Rattle.gier_pass7.specs.Kinds.{is_cell, is_value, is_name, is_array, is_array_formal, is_switch, is_procedure, is_procedure_formal, is_numbered, library_number, is_evaluated, value_type, actual_of_value, actual_of_name, formal_kind, packed_number};
+ghost use Rattle.gier_pass7.specs.Kinds.{is_cell, is_value, is_name, is_array, is_array_formal, is_switch, is_procedure};
+ghost use Rattle.gier_pass7.specs.Kinds.{is_procedure_formal, is_numbered, library_number, is_evaluated, value_type};
+ghost use Rattle.gier_pass7.specs.Kinds.{actual_of_value, actual_of_name, formal_kind, packed_number};
 
 use gier_tree::Kind;
 
@@ -124,7 +126,8 @@ pub(crate) fn library_number(kind: Kind) -> u64
     }
 }
 
-/// Whether the actual for such a formal is an evaluation. Of a formal procedure's call the formals aren't known, so each expression is one.
+/// Whether the actual for such a formal is an evaluation. Of a formal procedure's call the formals aren't known, so each expression
+/// is one.
 pub(crate) fn is_evaluated(formal: Kind) -> bool
     ensures { result ≡ is_evaluated formal }
 {

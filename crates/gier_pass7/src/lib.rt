@@ -2,13 +2,13 @@
 #![tactic(auto)]
 
 mod actuals;
+mod backpatch;
 mod blocks;
 mod calls;
 mod declarations;
 mod elements;
 mod evaluations;
 mod formal_calls;
-mod backpatch;
 mod identifiers;
 mod kinds;
 mod lists;

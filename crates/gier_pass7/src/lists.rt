@@ -43,7 +43,8 @@ pub(crate) const WORD_WIDTH: u8 = 1;
 /// The greatest word of a list.
 pub(crate) const LAST_WORD: u64 = (1 << 40) - 1;
 
-/// The longest code of an expression that is held back has fewer symbols for each byte: a formal procedure's call takes 46 for three.
+/// The longest code of an expression that is held back has fewer symbols for each byte: a formal procedure's call takes 46 for
+/// three.
 pub(crate) fn outbox_room(bytes: u32) -> u32
     requires { bytes ≤ 524288 }
     ensures { result ≡ 19 * bytes + 512 }

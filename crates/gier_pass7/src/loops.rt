@@ -4,12 +4,13 @@ ghost use Rattle.gier_text.specs.TablesModel.{tables_model};
 
 use crate::lists::{RECORD, forget};
 use crate::names::Name;
-use crate::open::{NOTHING, StackEntry, EntryKind, line_of};
+use crate::open::{EntryKind, NOTHING, StackEntry, line_of};
 use crate::state::State;
 use gier_order::Operation;
 use gier_text::Tables;
 
-// Behind the first free working place, where the run goes on after a turn, stand the address of the variable and then its value for the sum.
+// Behind the first free working place, where the run goes on after a turn, stand the address of the variable and then its value for
+// the sum.
 const ADDRESS: u64 = 1;
 
 const SUM: u64 = 2;

@@ -1,4 +1,5 @@
 // A used identifier, and what is held of it until the symbol behind it tells how it is used.
+use gier_limits::ADDRESSES;
 use gier_symbol::Symbol;
 use gier_tree::Kind;
 
@@ -21,9 +22,6 @@ pub(crate) enum PendingName {
     /// The place of an array element, which is a left part, a variable as an actual, or an operand; its line.
     Element(u32),
 }
-
-// Addresses are below this, and levels above it.
-const ADDRESSES: u64 = 1 << 24;
 
 pub(crate) fn level_in(place: u64) -> u64 {
     place / ADDRESSES

@@ -36,7 +36,8 @@ pub(crate) enum EntryKind {
     /// An assignment; its count is that of its left parts.
     Assignment = 13,
     Goto = 14,
-    /// A call; its count is that of its actuals so far. Where a formal procedure is called, `at` is the place of the number of actuals.
+    /// A call; its count is that of its actuals so far. Where a formal procedure is called, `at` is the place of the number of
+    /// actuals.
     Call = 15,
     /// An actual; its kind is that of the formal, where it is known.
     Actual = 16,

@@ -6,13 +6,11 @@ use crate::kinds::ValueType;
 use crate::lists::{SPILLS, drop_last, len, push_word, word_at};
 use crate::operations::{Operator, operator_of, result_type};
 use crate::state::State;
+use gier_limits::ADDRESSES;
 use gier_order::Operation;
 use gier_symbol::{Symbol, Tag};
 use gier_text::Tables;
 use std::cmp;
-
-// Numbers below this stand in the order itself.
-const SHORT_NUMBERS: u64 = 1 << 24;
 
 impl State {
     ghost use Rattle.gier_pass7.specs.StateInvariants.{StateInvariant, PreservesState};
@@ -96,7 +94,7 @@ impl State {
         ensures { PreservesState self.old (tables_model tables.old) self.new (tables_model tables.new) }
     {
         self.operand_begins(tables);
-        if s.value < SHORT_NUMBERS {
+        if s.value < ADDRESSES {
             self.order(tables, Operation::Short, 0, s.value, s.line);
         } else {
             self.plain(tables, Operation::Long, s.line);

@@ -5,23 +5,15 @@ ghost use Rattle.gier_pass7.specs.Codes.{head, fields, order_code};
 
 use crate::lists::{OUTBOX, head_at, len, push_outbox, set_outbox, value_at};
 use crate::state::State;
+use gier_limits::{ADDRESSES, LINES, ORDER_FIELDS};
 use gier_order::Operation;
 use gier_symbol::{ORDER_BASE, Tag};
 use gier_text::Tables;
 use std::cmp;
 
-// All addresses are below this, and the level of an order is a multiple of it.
-const ADDRESSES: u64 = 1 << 24;
-
 const LAST_ADDRESS: u64 = ADDRESSES - 1;
 
 const LAST_LEVEL: u64 = 255;
-
-// The number of a packed order is a multiple of this.
-const ORDERS: u64 = 1 << 32;
-
-// The tag of a symbol is a multiple of this in its first word.
-const LINES: u64 = 1 << 24;
 
 const LAST_LINE: u32 = (1 << 24) - 1;
 
@@ -49,7 +41,7 @@ pub(crate) fn fields(level: u64, address: u64) -> u64
 pub(crate) fn packed(operation: Operation, level: u64, address: u64) -> u64
     ensures { result ≡ order_code operation level address }
 {
-    u64::from(operation.number()) * ORDERS + fields(level, address)
+    u64::from(operation.number()) * ORDER_FIELDS + fields(level, address)
 }
 
 impl State {

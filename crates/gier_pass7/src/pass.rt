@@ -10,11 +10,9 @@ use crate::lists::{STACK_WIDTH, SYMBOL_WIDTH, WORD_WIDTH, outbox_room, record_ro
 use crate::names::PendingName;
 use crate::send::send;
 use crate::state::State;
+use gier_limits::FIRST_NEW_LABEL;
 use gier_symbol::{Alphabet, Coded};
 use gier_text::{Pass, PassStop, Tables, Text};
-
-// Labels that the program doesn't declare are numbered from here.
-const OTHER_LABELS: u64 = 1 << 23;
 
 /// Pass 7: takes text 6 forward, and writes text 7.
 ///
@@ -42,7 +40,7 @@ fn start(bytes: u32) -> State
         free: 0,
         high_water: 0,
         level: 0,
-        label: OTHER_LABELS,
+        label: FIRST_NEW_LABEL,
         number: 0,
         address: 0,
         room: 0,

@@ -1,4 +1,5 @@
-// Writing what waits in the outbox. Entries that were left free aren't written, nor is what goes past the greatest length of a text.
+// Writing what waits in the outbox. Entries that were left free aren't written, nor is what goes past the greatest length of a
+// text.
 ghost use Rattle.std.specs.Prelude.{◌≡◌, ◌≤◌, ◌<◌, ◌+◌, ◌*◌, ◌-◌, [], length, All, OnOk, IfOk, IfSome, IsErrOf, IsTrue, false};
 ghost use Rattle.gier_word.specs.Cause.{HasRisen};
 ghost use Rattle.gier_symbol.specs.Symbols.{IsSymbol};

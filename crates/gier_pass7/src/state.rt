@@ -34,7 +34,8 @@ pub(crate) struct State {
     pub(crate) entry: bool,
     // Whether symbols are those of a step expression.
     pub(crate) recording: bool,
-    // The string that is being read: the place of its length in the outbox, its label behind it, its bytes so far, and those of them that aren't written.
+    // The string that is being read: the place of its length in the outbox, its label behind it, its bytes so far, and those of
+    // them that aren't written.
     pub(crate) text_at: u64,
     pub(crate) text_label: u64,
     pub(crate) text_length: u64,

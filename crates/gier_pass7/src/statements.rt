@@ -2,7 +2,7 @@
 ghost use Rattle.std.specs.Prelude.{◌≡◌};
 ghost use Rattle.gier_text.specs.TablesModel.{tables_model};
 
-use crate::open::{NOTHING, StackEntry, EntryKind};
+use crate::open::{EntryKind, NOTHING, StackEntry};
 use crate::state::State;
 use gier_order::Operation;
 use gier_text::Tables;

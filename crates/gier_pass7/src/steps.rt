@@ -5,7 +5,7 @@ ghost use Rattle.gier_text.specs.TablesModel.{tables_model};
 
 use crate::kinds::kind_of;
 use crate::lists::{RECORD, len, record, recorded};
-use crate::names::{PendingName, Name, with_count, with_place};
+use crate::names::{Name, PendingName, with_count, with_place};
 use crate::open::EntryKind;
 use crate::state::State;
 use gier_symbol::{Symbol, Tag};

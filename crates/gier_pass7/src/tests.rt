@@ -3,13 +3,11 @@ ghost use Rattle.std.specs.Prelude.{◌≡◌, IfOk, IfSome, false, true};
 ghost use Rattle.gier_symbol.specs.Symbols.{IsSymbol};
 
 use crate::Pass7;
+use gier_limits::LINES;
 use gier_symbol::Symbol;
 use gier_text::{ListText, Tables, Text, TextStop, Way, drive};
 use std::alloc::Global;
 use std::test::Fail;
-
-// Lines are below this.
-const LINES: u64 = 1 << 24;
 
 fn symbol_of(row: (u64, u64, u64)) -> Option<Symbol>
     ensures { IfSome result IsSymbol }

@@ -4,7 +4,8 @@ use Rattle.gier_symbol.specs.declared.symbol.Symbol.{Symbol}
 use Rattle.gier_symbol.specs.Texts.{last_order}
 use Rattle.gier_labels.specs.Labels.{place_of}
 use Rattle.gier_labels.specs.Pieces.{is_placed}
-use Rattle.gier_tree.specs.Object.{Piece, APlace, AUse, AWordUse, ARoom, ANeed, ACount, AWord, AnOrder, piece_of, words_of, need_behind, text8_of}
+use Rattle.gier_tree.specs.Object.{Piece, APlace, AUse, AWordUse, ARoom, ANeed, ACount, AWord, AnOrder, piece_of, words_of}
+use Rattle.gier_tree.specs.Object.{need_behind, text8_of}
 
 -- how many words of the object a text has
 abbrev pub words_in : List Symbol → ℕ
@@ -36,7 +37,8 @@ abbrev pub Suits : (room : ℕ) → (text : List Symbol) → (value : ℕ) → P
 Suits room text value (APlace label) behind = (place_of label < room) × (is_placed label behind ≡ false) × (0 < length behind)
 Suits room text value (AUse head label) behind = IsKnown room label text × IsOrderNumber (head / 256) × (0 < length behind)
 Suits room text value (AWordUse label) behind = IsKnown room label text × (0 < length behind)
-Suits room text value (ARoom head words) behind = (words + need_behind behind 0 < 2 ^ 24) × IsOrderNumber (head / 256) × (0 < length behind)
+Suits room text value (ARoom head words) behind = (words + need_behind behind 0 < 2 ^ 24) × IsOrderNumber (head / 256)
+    × (0 < length behind)
 Suits room text value (ANeed need) behind = (length (open_needs behind) < room) × (0 < length behind)
 Suits room text value ACount behind = (behind ≡ []) × (value ≡ words_in text)
 Suits room text value (AWord word) behind = 0 < length behind

@@ -5,7 +5,8 @@ use Rattle.gier_symbol.specs.declared.tag.Tag.TheVariants.{Word}
 use Rattle.gier_symbol.specs.ByTag.{sym}
 use Rattle.gier_text.specs.TablesModel.{TablesModel}
 use Rattle.gier_labels.specs.Pieces.{is_placed}
-use Rattle.gier_tree.specs.Object.{Piece, APlace, AUse, AWordUse, ARoom, ANeed, ACount, piece_of, words_of, need_behind, address_of, is_used, known_order, kept_if}
+use Rattle.gier_tree.specs.Object.{Piece, APlace, AUse, AWordUse, ARoom, ANeed, ACount, piece_of, words_of, need_behind}
+use Rattle.gier_tree.specs.Object.{address_of, is_used, known_order, kept_if}
 use Rattle.gier_pass8.specs.declared.words.Label.{Label}
 use Rattle.gier_pass8.specs.declared.words.Label.TheVariants.{New, Used, At}
 use Rattle.gier_pass8.specs.Knowledge.{Knows, needs_of}

@@ -7,10 +7,12 @@ ghost use Rattle.gier_symbol.specs.declared.tag.Tag.TheVariants.{LabelPlace};
 ghost use Rattle.gier_symbol.specs.Texts.{is_tag_of};
 ghost use Rattle.gier_pass8.specs.Steps.{known, mark_with, order_with, word_with, last_need, text8_of, word8_of, place_before};
 ghost use Rattle.gier_pass8.specs.Lists.{HasLists, IsWritable, Keeps};
-ghost use Rattle.gier_pass8.specs.Knowledge.{Knows, with_known, with_label_used, known_word, known_behind, needs_of, with_need, without_need, needs_behind};
+ghost use Rattle.gier_pass8.specs.Knowledge.{Knows, with_known, with_label_used, known_word, known_behind, needs_of, with_need};
+ghost use Rattle.gier_pass8.specs.Knowledge.{without_need, needs_behind};
 ghost use Rattle.gier_pass8.specs.declared.words.Label.TheVariants.{Used, At};
 
-use crate::words::{ADDRESSES, Label, filled, number_in, sum};
+use crate::words::{Label, filled, number_in, sum};
+use gier_limits::ADDRESSES;
 use gier_symbol::{Symbol, Tag, stands_in};
 use gier_text::Tables;
 
@@ -102,7 +104,8 @@ impl State {
         ensures lists { Keeps self.now.bytes (tables_model tables.old) (tables_model tables.new) }
         ensures value { result ≡ order_with (known (tables_model tables.old) (number_in s.value)) s }
         ensures labels { Knows (20 * self.now.bytes + 64) (tables_model tables.new) (λ label.
-            with_label_used (known (tables_model tables.old) (number_in s.value)) (number_in s.value) label (known (tables_model tables.old) label)) }
+            with_label_used (known (tables_model tables.old) (number_in s.value)) (number_in s.value) label
+            (known (tables_model tables.old) label)) }
         ensures needs { needs_of (tables_model tables.new) ≡ needs_of (tables_model tables.old) }
         ensures written { IsWritable result }
     {
@@ -123,7 +126,8 @@ impl State {
         ensures lists { Keeps self.now.bytes (tables_model tables.old) (tables_model tables.new) }
         ensures value { result ≡ word_with (known (tables_model tables.old) s.value) s }
         ensures labels { Knows (20 * self.now.bytes + 64) (tables_model tables.new)
-            (λ label. with_label_used (known (tables_model tables.old) s.value) s.value label (known (tables_model tables.old) label)) }
+            (λ label. with_label_used (known (tables_model tables.old) s.value) s.value label
+            (known (tables_model tables.old) label)) }
         ensures needs { needs_of (tables_model tables.new) ≡ needs_of (tables_model tables.old) }
         ensures written { IsWritable result }
     {
@@ -141,8 +145,10 @@ impl State {
         requires lists { HasLists self.now.bytes (tables_model tables.old) }
         requires small { need < 2 ^ 40 }
         ensures lists { Keeps self.now.bytes (tables_model tables.old) (tables_model tables.new) }
-        ensures labels { Knows (20 * self.now.bytes + 64) (tables_model tables.new) (λ label. known (tables_model tables.old) label) }
-        ensures needs { needs_of (tables_model tables.new) ≡ with_need (20 * self.now.bytes + 64) need (needs_of (tables_model tables.old)) }
+        ensures labels { Knows (20 * self.now.bytes + 64) (tables_model tables.new)
+            (λ label. known (tables_model tables.old) label) }
+        ensures needs { needs_of (tables_model tables.new)
+            ≡ with_need (20 * self.now.bytes + 64) need (needs_of (tables_model tables.old)) }
     {
         if tables.len(NEEDS) < room(self.bytes) {
             tables.push(NEEDS, &[need]);
@@ -154,7 +160,8 @@ impl State {
         requires lists { HasLists self.now.bytes (tables_model tables.old) }
         ensures lists { Keeps self.now.bytes (tables_model tables.old) (tables_model tables.new) }
         ensures value { result ≡ last_need (tables_model tables.old) }
-        ensures labels { Knows (20 * self.now.bytes + 64) (tables_model tables.new) (λ label. known (tables_model tables.old) label) }
+        ensures labels { Knows (20 * self.now.bytes + 64) (tables_model tables.new)
+            (λ label. known (tables_model tables.old) label) }
         ensures needs { needs_of (tables_model tables.new) ≡ without_need (needs_of (tables_model tables.old)) }
         ensures small { result < 2 ^ 40 }
     {
@@ -173,7 +180,8 @@ impl State {
         requires symbol { IsSymbol s }
         ensures lists { Keeps self.now.bytes (tables_model tables.old) (tables_model tables.new) }
         ensures value { result ≡ with_address s (sum_of (number_in s.value) (last_need (tables_model tables.old))) }
-        ensures labels { Knows (20 * self.now.bytes + 64) (tables_model tables.new) (λ label. known (tables_model tables.old) label) }
+        ensures labels { Knows (20 * self.now.bytes + 64) (tables_model tables.new)
+            (λ label. known (tables_model tables.old) label) }
         ensures needs { needs_of (tables_model tables.new) ≡ without_need (needs_of (tables_model tables.old)) }
         ensures written { IsWritable result }
     {
@@ -188,8 +196,10 @@ impl State {
         ensures lists { Keeps self.old.bytes (tables_model tables.old) (tables_model tables.new) }
         ensures bytes { self.new.bytes ≡ self.old.bytes }
         ensures value { result ≡ text8_of (tables_model tables.old) s }
-        ensures labels { Knows (20 * self.old.bytes + 64) (tables_model tables.new) (known_behind (tables_model tables.old) self.old.place s) }
-        ensures needs { needs_of (tables_model tables.new) ≡ needs_behind (20 * self.old.bytes + 64) s (needs_of (tables_model tables.old)) }
+        ensures labels { Knows (20 * self.old.bytes + 64) (tables_model tables.new)
+            (known_behind (tables_model tables.old) self.old.place s) }
+        ensures needs { needs_of (tables_model tables.new)
+            ≡ needs_behind (20 * self.old.bytes + 64) s (needs_of (tables_model tables.old)) }
         ensures place { self.new.place ≡ place_before self.old.place s }
         ensures written { IfSome result IsWritable }
     {

@@ -4,15 +4,10 @@ ghost use Rattle.gier_symbol.specs.Symbols.{IsSymbol};
 ghost use Rattle.gier_symbol.specs.Texts.{stands_in};
 ghost use Rattle.gier_pass8.specs.Words.{sum_of, label_of, word_of, number_in, with_address};
 
+use gier_limits::{ADDRESSES, ORDER_FIELDS};
 use gier_symbol::{LAST_ORDER, ORDER_BASE, Symbol, Tag};
 
-/// All addresses and rooms are below this, and the level of a packed order is a multiple of it.
-pub(crate) const ADDRESSES: u64 = 1 << 24;
-
 const LAST_ADDRESS: u64 = ADDRESSES - 1;
-
-// The number of a packed order is a multiple of this.
-const ORDERS: u64 = 1 << 32;
 
 /// A sum of addresses or rooms; a greater one than there may be becomes the greatest that may.
 pub(crate) fn sum(a: u64, b: u64) -> u64
@@ -81,8 +76,8 @@ pub(crate) fn filled(s: Symbol, address: u64) -> Symbol
     ensures symbol { IsSymbol result }
     ensures letter { IsTrue (stands_in 8 result.tag) }
 {
-    let order = s.value / ORDERS;
-    let value = s.value % ORDERS / ADDRESSES * ADDRESSES + address;
+    let order = s.value / ORDER_FIELDS;
+    let value = s.value % ORDER_FIELDS / ADDRESSES * ADDRESSES + address;
     if 0 < order && order <= u64::from(LAST_ORDER) {
         Symbol {
             tag: ORDER_BASE + order as u16,

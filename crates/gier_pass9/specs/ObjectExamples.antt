@@ -1,8 +1,10 @@
 -- The words of the objects of some texts.
 use Rattle.std.specs.Prelude.{◌≡◌, ℕ, List, [], ◌∷◌}
 use Rattle.gier_symbol.specs.declared.symbol.Symbol.{Symbol}
-use Rattle.gier_tree.specs.CodeExamples.{code_sums_8, code_sums_object, code_loops_8, code_loops_object, code_arrays_8, code_arrays_object}
-use Rattle.gier_tree.specs.CodeExamples.{code_calls_8, code_calls_object, code_formals_8, code_formals_object, code_own_8, code_own_object}
+use Rattle.gier_tree.specs.CodeExamples.{code_sums_8, code_sums_object, code_loops_8, code_loops_object, code_arrays_8}
+use Rattle.gier_tree.specs.CodeExamples.{code_arrays_object}
+use Rattle.gier_tree.specs.CodeExamples.{code_calls_8, code_calls_object, code_formals_8, code_formals_object, code_own_8}
+use Rattle.gier_tree.specs.CodeExamples.{code_own_object}
 use Rattle.gier_tree.specs.Object.{text8_of}
 use Rattle.gier_tree.specs.SpellExamples.{row}
 use Rattle.gier_pass9.specs.ObjectOfText.{object_words}
@@ -10,7 +12,8 @@ use Rattle.gier_pass9.specs.Objects.{IsText7}
 
 -- a text 7: START with an open room, a jump to the label before it and one to a label behind, and STOP
 abbrev pub jumps_7 : List Symbol
-jumps_7 = row 124 4311744515 1 ∷ row 121 8388608 1 ∷ row 122 115972505600 1 ∷ row 122 115972505601 1 ∷ row 121 8388609 1 ∷ row 130 0 1
+jumps_7 = row 124 4311744515 1 ∷ row 121 8388608 1 ∷ row 122 115972505600 1 ∷ row 122 115972505601 1 ∷ row 121 8388609 1
+    ∷ row 130 0 1
     ∷ row 125 4 1 ∷ row 126 4 1 ∷ []
 
 -- the address of the label behind is known, and the mark of the other one stays

@@ -1,5 +1,6 @@
 -- The object that a text 8 makes: its words, and the tracks on which they stand.
-use Rattle.std.specs.Prelude.{◌≡◌, ◌<◌, ◌+◌, ◌-◌, ◌*◌, ◌/◌, ◌%◌, ◌^◌, ◌==◌, ◌&&◌, ◌++◌, ⊤, ℕ, zero, suc, List, [], ◌∷◌, length, min, nat_lt}
+use Rattle.std.specs.Prelude.{◌≡◌, ◌<◌, ◌+◌, ◌-◌, ◌*◌, ◌/◌, ◌%◌, ◌^◌, ◌==◌, ◌&&◌, ◌++◌, ⊤, ℕ, zero, suc, List, [], ◌∷◌, length}
+use Rattle.std.specs.Prelude.{min, nat_lt}
 use Rattle.std.specs.Prelude.{slice_index, slice_index_or, Option, None, Some, if◌then◌else◌}
 use Rattle.gier_symbol.specs.declared.symbol.Symbol.{Symbol}
 use Rattle.gier_symbol.specs.declared.tag.Tag.TheVariants.{LabelPlace, LabelOrder, LabelWord}
@@ -47,7 +48,8 @@ marks_behind room place s marks = if is_tag_of LabelPlace s.tag then with_mark r
 -- the words of a text, where these marks and so many words stand before it
 abbrev pub words_from : (room : ℕ) → Marks → (place : ℕ) → List Symbol → List ℕ
 words_from room marks place [] = []
-words_from room marks place (s ∷ text) = words_with marks s ++ words_from room (marks_behind room place s marks) (place + words_for s) text
+words_from room marks place (s ∷ text) = words_with marks s
+    ++ words_from room (marks_behind room place s marks) (place + words_for s) text
 
 -- the words of the object of a text, where the longest program has so many bytes
 abbrev pub object_words : (limit : ℕ) → List Symbol → List ℕ

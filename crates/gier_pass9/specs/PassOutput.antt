@@ -1,5 +1,6 @@
 -- What the pass writes for a text, and which texts it isn't meant for.
-use Rattle.std.specs.Prelude.{◌≡◌, ◌≤◌, ◌⊎◌, ◌++◌, ◌∷◌, ◌+◌, ◌*◌, ◌^◌, ℕ, false, List, [], Option, All, IsTrue, length, if◌then◌else◌}
+use Rattle.std.specs.Prelude.{◌≡◌, ◌≤◌, ◌⊎◌, ◌++◌, ◌∷◌, ◌+◌, ◌*◌, ◌^◌, ℕ, false, List, [], Option, All, IsTrue, length}
+use Rattle.std.specs.Prelude.{if◌then◌else◌}
 use Rattle.gier_drum.specs.declared.drum.Entry.{Entry}
 use Rattle.gier_symbol.specs.declared.symbol.Symbol.{Symbol}
 use Rattle.gier_symbol.specs.declared.tag.Tag.TheVariants.{LabelPlace}
@@ -63,7 +64,8 @@ pub record Fills (text text_now : View) (first tracks : ℕ) (before after : Opt
   pub journal : LogsAll before entries after
 
 -- what is told of a store is what is told of the drum
-pub record AreThose {S : Type 0} (room drum_room : S → ℕ) (tracks drum_tracks : S → Option (List (List ℕ))) (journal drum_journal : S → Option (List Entry)) (faults drum_faults : S → ℕ) : Type 0 where
+pub record AreThose {S : Type 0} (room drum_room : S → ℕ) (tracks drum_tracks : S → Option (List (List ℕ)))
+    (journal drum_journal : S → Option (List Entry)) (faults drum_faults : S → ℕ) : Type 0 where
   pub same_room : (drum : S) → room drum ≡ drum_room drum
   pub same_tracks : (drum : S) → tracks drum ≡ drum_tracks drum
   pub same_journal : (drum : S) → journal drum ≡ drum_journal drum

@@ -6,16 +6,11 @@ ghost use Rattle.gier_labels.specs.Labels.{HasLabels};
 ghost use Rattle.gier_pass9.specs.Words.{room_of, address_in, address_of, with_address, order_word, word_of, KeepsLabels};
 ghost use Rattle.gier_pass9.specs.ObjectOfText.{with_mark, marks_of, word_by};
 
+use gier_limits::{ADDRESSES, ORDER_FIELDS};
 use gier_symbol::{ORDER_BASE, Symbol, Tag};
 use gier_text::Tables;
 
-// All addresses are below this, and the level of an order is a multiple of it.
-const ADDRESSES: u64 = 1 << 24;
-
 const LAST_ADDRESS: u64 = ADDRESSES - 1;
-
-// The number of an order is a multiple of this.
-const ORDERS: u64 = 1 << 32;
 
 // The word of a label whose mark was read is one more than its address; that of any other is 0.
 const MARKED: u64 = 1;
@@ -32,7 +27,8 @@ pub(crate) fn room(limit: u32) -> u32
 pub(crate) fn set_mark(tables: &mut Tables, label: u64, place: u32, room: u32)
     requires labels { HasLabels room (tables_model tables.old) }
     ensures kept { KeepsLabels room (tables_model tables.old) (tables_model tables.new) }
-    ensures marks { (other : ℕ) → marks_of (tables_model tables.new) other ≡ with_mark room label place (marks_of (tables_model tables.old)) other }
+    ensures marks { (other : ℕ) → marks_of (tables_model tables.new) other
+        ≡ with_mark room label place (marks_of (tables_model tables.old)) other }
 {
     gier_labels::set_word(tables, label, u64::from(place) + MARKED, room);
 }
@@ -69,7 +65,7 @@ fn order_word(s: Symbol) -> u64
     ensures value { result ≡ order_word s }
     ensures small { result < 2 ^ 40 }
 {
-    u64::from(s.tag - ORDER_BASE) * ORDERS + s.value % ORDERS
+    u64::from(s.tag - ORDER_BASE) * ORDER_FIELDS + s.value % ORDER_FIELDS
 }
 
 /// The word of the object that a symbol of text 8 other than a mark stands for.

@@ -32,9 +32,9 @@ pub struct Pass9;
 impl Pass9 {
     /// Writes the words of the object to the tracks of the drum from `first_track` on, and gives their number, from 1 to `most`.
     ///
-    /// Each track is written once, the last one filled up with 0. The lists of the tables are cleared, and the faults stay. A text with more
-    /// than `most` words is Spoilt at the symbol of the first word too many, and one without a word with place 0 and word 0. It never
-    /// answers Full.
+    /// Each track is written once, the last one filled up with 0. The lists of the tables are cleared, and the faults stay. A text
+    /// with more than `most` words is Spoilt at the symbol of the first word too many, and one without a word with place 0 and word
+    /// 0. It never answers Full.
     pub fn write<T: Text<Store = D>, D: Drum>(
         text: &mut T,
         first_track: u32,

@@ -1,5 +1,6 @@
 -- What the places hold, and what a reference does to that.
-use Rattle.std.specs.Prelude.{◌≡◌, ◌+◌, ℕ, List, [], ◌∷◌, ◌++◌, All, length, map, Bool, if◌then◌else◌, Result, MatchResult, Option, None, Some, slice_get}
+use Rattle.std.specs.Prelude.{◌≡◌, ◌+◌, ℕ, List, [], ◌∷◌, ◌++◌, All, length, map, Bool, if◌then◌else◌, Result, MatchResult}
+use Rattle.std.specs.Prelude.{Option, None, Some, slice_get}
 use Rattle.gier_drum.specs.declared.drum.Entry.{Entry}
 use Rattle.gier_drum.specs.declared.drum.Entry.TheVariants.{Read}
 use Rattle.gier_order.specs.Misses.{is_among, misses, most_recent}
@@ -37,7 +38,8 @@ pub record Refers (old : Contents) (track : ℕ) (new : Contents) : Type 0 where
 
 -- after a failure nothing has changed, and else the places still agree with a drum that has these tracks
 abbrev pub AfterRefer : {T E : Type 0} → Option (List (List ℕ)) → Contents → ℕ → Result T E → Contents → Type 0
-AfterRefer tracks old track result new = MatchResult result (λ _. Refers old track new × (Agrees tracks old.held → Agrees tracks new.held)) (λ _. new ≡ old)
+AfterRefer tracks old track result new = MatchResult result
+    (λ _. Refers old track new × (Agrees tracks old.held → Agrees tracks new.held)) (λ _. new ≡ old)
 
 -- the reads of these tracks were appended to a journal, where it is told
 abbrev pub LogsReads : Option (List Entry) → List ℕ → Option (List Entry) → Type 0

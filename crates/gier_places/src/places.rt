@@ -1,5 +1,7 @@
 // The places, and a reference to a track, which gives its words.
-ghost use Rattle.std.specs.Prelude.{◌≡◌, ◌==◌, ◌+◌, ◌<◌, ◌≤◌, ◌^◌, ◌∷◌, ◌++◌, ℕ, List, [], Option, Some, OnOk, OnErr, IfOk, IsOk, IsTrue, All, length, take, remove, position, slice_get, slice_index_or, vec_capacity, false};
+ghost use Rattle.std.specs.Prelude.{◌≡◌, ◌==◌, ◌+◌, ◌<◌, ◌≤◌, ◌^◌, ◌∷◌, ◌++◌, ℕ, List, [], Option, Some, OnOk, OnErr, IfOk};
+ghost use Rattle.std.specs.Prelude.{IsOk, IsTrue, All, length, take, remove, position, slice_get, slice_index_or, vec_capacity};
+ghost use Rattle.std.specs.Prelude.{false};
 ghost use Rattle.gier_word.specs.Cause.{HasCause};
 ghost use Rattle.gier_drum.specs.Drum.{GivesTrack, Logs};
 ghost use Rattle.gier_drum.specs.declared.drum.Entry.{Entry};

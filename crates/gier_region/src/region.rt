@@ -1,6 +1,7 @@
 // A list of words, of which memory is touched only up to the highest word in use.
 // It knows nothing of what the words stand for.
-ghost use Rattle.std.specs.Prelude.{◌≡◌, ◌+◌, ◌<◌, ◌≤◌, ◌^◌, ◌↔◌, ◌⊎◌, ℕ, length, slice_index, OnErr, IfOk, IsErr, OnOk, vec_capacity};
+ghost use Rattle.std.specs.Prelude.{◌≡◌, ◌+◌, ◌<◌, ◌≤◌, ◌^◌, ◌↔◌, ◌⊎◌, ℕ, length, slice_index, OnErr, IfOk, IsErr, OnOk};
+ghost use Rattle.std.specs.Prelude.{vec_capacity};
 ghost use Rattle.gier_region.specs.Contents.{fresh, with_taken, with_word};
 
 use gier_word::NoMemory;
@@ -30,7 +31,8 @@ impl Model for Region {
 
     ghost view = { λ r. record { words = zero_filled r.touched.items r.size; used = r.used } };
 
-    ghost invariant = { λ r. (r.used ≤ r.size) × (length r.touched.items ≤ r.size) × (r.size ≤ vec_capacity r.touched) × ((k : ℕ) → slice_index r.touched.items k < 2 ^ 40) };
+    ghost invariant = { λ r. (r.used ≤ r.size) × (length r.touched.items ≤ r.size) × (r.size ≤ vec_capacity r.touched)
+        × ((k : ℕ) → slice_index r.touched.items k < 2 ^ 40) };
 }
 
 impl Region {

@@ -1,5 +1,6 @@
 // Bounded lists of packed values, each in its own words of a region.
-ghost use Rattle.std.specs.Prelude.{◌≡◌, ◌+◌, ◌*◌, ◌<◌, ◌≤◌, ◌↔◌, ◌++◌, [], ◌∷◌, ℕ, List, Option, Some, length, take, slice_set, IfOk, OnOk, OnErr, IsErr};
+ghost use Rattle.std.specs.Prelude.{◌≡◌, ◌+◌, ◌*◌, ◌<◌, ◌≤◌, ◌↔◌, ◌++◌, [], ◌∷◌, ℕ, List, Option, Some, length, take};
+ghost use Rattle.std.specs.Prelude.{slice_set, IfOk, OnOk, OnErr, IsErr};
 ghost use Rattle.gier_region.specs.Contents.{with_taken, ChangesOnly};
 ghost use Rattle.gier_region.specs.Packing.{LiesIn, entry, entries};
 
@@ -72,7 +73,8 @@ impl<T: Packed> Table<T> {
     pub fn truncate(&mut self, len: u64)
         requires { len ≤ self.old.len }
         ensures cut { self.new ≡ record self.old { len = len } }
-        ensures entries { (words : List ℕ) → entries T.value_of T.WORDS self.new words ≡ take len (entries T.value_of T.WORDS self.old words) }
+        ensures entries { (words : List ℕ)
+            → entries T.value_of T.WORDS self.new words ≡ take len (entries T.value_of T.WORDS self.old words) }
     {
         self.len = len;
     }
@@ -84,8 +86,10 @@ impl<T: Packed + Drop> Table<T> {
         requires room { LiesIn T.WORDS self.old region.old.words }
         ensures full { IsErr result ↔ (self.old.len ≡ self.old.capacity) }
         ensures len { OnOk result (self.new ≡ record self.old { len = self.old.len + 1 }) }
-        ensures entries { OnOk result (entries T.value_of T.WORDS self.new region.new.words ≡ entries T.value_of T.WORDS self.old region.old.words ++ Some item ∷ []) }
-        ensures only { OnOk result (ChangesOnly (self.old.base + self.old.len * T.WORDS) T.WORDS region.old.words region.new.words) }
+        ensures entries { OnOk result (entries T.value_of T.WORDS self.new region.new.words
+            ≡ entries T.value_of T.WORDS self.old region.old.words ++ Some item ∷ []) }
+        ensures only { OnOk result (ChangesOnly
+            (self.old.base + self.old.len * T.WORDS) T.WORDS region.old.words region.new.words) }
         ensures used { region.new.used ≡ region.old.used }
         ensures table { OnErr result (self.new ≡ self.old) }
         ensures region { OnErr result (region.new ≡ region.old) }
@@ -103,7 +107,8 @@ impl<T: Packed + Drop> Table<T> {
         requires at { at < self.old.len }
         requires room { LiesIn T.WORDS self.old region.old.words }
         ensures table { self.new ≡ self.old }
-        ensures entries { entries T.value_of T.WORDS self.new region.new.words ≡ slice_set (entries T.value_of T.WORDS self.old region.old.words) at (Some item) }
+        ensures entries { entries T.value_of T.WORDS self.new region.new.words
+            ≡ slice_set (entries T.value_of T.WORDS self.old region.old.words) at (Some item) }
         ensures only { ChangesOnly (self.old.base + at * T.WORDS) T.WORDS region.old.words region.new.words }
         ensures used { region.new.used ≡ region.old.used }
     {

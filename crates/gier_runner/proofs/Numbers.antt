@@ -3,7 +3,7 @@ use Rattle.std.proofs.Common.{◌≡◌, ◌<◌, ◌≤◌, ◌+◌, ◌*◌, �
 use Rattle.std.proofs.lemmas.Nat.{mul-le}
 use Rattle.gier_order.specs.Counts.{Counts, references_taken}
 use Rattle.gier_places.specs.Contents.{Contents}
-use Rattle.gier_exec.specs.Registers.{Registers, begun_at, measure}
+use Rattle.gier_exec.specs.Registers.{Registers, first_registers, measure}
 use Rattle.gier_runner.specs.RunInvariant.{Counted}
 use Rattle.gier_runner.specs.State.{State, Begun}
 use Rattle.gier_runner.specs.declared.settings.Settings.{Settings}
@@ -21,16 +21,16 @@ next_counts words old new recent after places later so falls references transfer
   transfers = more places.transfers later.transfers (2 ^ 118) (measure words old) (measure words new) (2 * words + 2) so.transfers falls (omega arith);
 }
 
-first_most : (words start steps : ℕ) → start < words → words ≤ 2 ^ 24 → steps < 2 ^ 64 → measure words (begun_at start steps) * (2 * words + 2) ≤ 2 ^ 118
+first_most : (words start steps : ℕ) → start < words → words ≤ 2 ^ 24 → steps < 2 ^ 64 → measure words (first_registers start steps) * (2 * words + 2) ≤ 2 ^ 118
 first_most words start steps within few small =
     let turns : (2 * steps + 0) * (words + 1) ≤ 2 ^ 65 * 2 ^ 25 = mul-le (2 * steps + 0) (words + 1) (2 ^ 65) (2 ^ 25) (omega arith) (omega arith) in
-    let both : measure words (begun_at start steps) * (2 * words + 2) ≤ 2 ^ 91 * 2 ^ 26 = mul-le (measure words (begun_at start steps)) (2 * words + 2) (2 ^ 91) (2 ^ 26) (omega (arith, turns)) (omega arith) in
+    let both : measure words (first_registers start steps) * (2 * words + 2) ≤ 2 ^ 91 * 2 ^ 26 = mul-le (measure words (first_registers start steps)) (2 * words + 2) (2 ^ 91) (2 ^ 26) (omega (arith, turns)) (omega arith) in
     omega (arith, both)
 
 pub first_counts : (words start steps : ℕ) (recent : Counts) (places : Contents) → start < words → words ≤ 2 ^ 24 → steps < 2 ^ 64 → references_taken recent ≡ 0 → places.transfers ≡ 0
-    → Counted words (begun_at start steps) recent places
+    → Counted words (first_registers start steps) recent places
 first_counts words start steps recent places within few small none unread =
-    let most : measure words (begun_at start steps) * (2 * words + 2) ≤ 2 ^ 118 = first_most words start steps within few small in
+    let most : measure words (first_registers start steps) * (2 * words + 2) ≤ 2 ^ 118 = first_most words start steps within few small in
     record { references = grind (arith, none, most); transfers = grind (arith, unread, most) }
 
 pub begun_counts : (words start : ℕ) (given : Settings) (s : State) → Begun given start s → start < words → words ≤ 2 ^ 24 → given.steps < 2 ^ 64 → Counted words s.machine s.recent s.places

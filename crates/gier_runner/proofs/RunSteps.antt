@@ -14,7 +14,7 @@ use Rattle.gier_exec.specs.Registers.{Registers}
 use Rattle.gier_exec.specs.Reading.{Stand}
 use Rattle.gier_exec.specs.Rows.{regs_of}
 use Rattle.gier_exec.specs.References.{Refers}
-use Rattle.gier_exec.specs.Turning.{IsRest, Follows, IsCut, told}
+use Rattle.gier_exec.specs.Turning.{IsRest, RefinesTurn, IsCut, printing_row}
 use Rattle.gier_exec.proofs.Referrings.{refers_none, refers_both}
 use Rattle.gier_exec.specs.declared.turn.Turn.{Turn}
 use Rattle.gier_exec.specs.declared.turn.Turn.TheVariants.{On as TurnOn, Ended as TurnEnded, Alarm as TurnAlarm, Steps as TurnSteps, Read as TurnRead, Write as TurnWrite, Drum as TurnDrum, Spoilt as TurnSpoilt}
@@ -89,7 +89,7 @@ module _ (code : List ℕ) (size : ℕ) (object : Object) where
   Turns old new word turn =
       (read put taken : List ℕ) × Refers object read old.stand new.stand × Puts old.holds put new.holds × Takes old.input taken new.input
       × ((rest : List ℕ) → IsRest new.input.ended rest
-      → Follows (row code size (regs old (taken ++ rest))) (regs old (taken ++ rest)) (regs new rest) read put taken old.machine.place word turn)
+      → RefinesTurn (row code size (regs old (taken ++ rest))) (regs old (taken ++ rest)) (regs new rest) read put taken old.machine.place word turn)
 
   -- what all of them do together
   abbrev pub Runs : (old new : Now) → Ending → Type 0
@@ -131,7 +131,7 @@ module _ (code : List ℕ) (size : ℕ) (object : Object) where
   -- The last order
 
   ends_by : (before after : Regs) (t : State) (read put : List ℕ) (end : FlatEnding) → Reaches code size (from before) t
-      → row code size t.regs ≡ told read put (Ends end after)
+      → row code size t.regs ≡ printing_row read put (Ends end after)
       → (moves : ℕ) × (final : Final) × (exec (one code size) moves (from before) ≡ Over final)
       × Comes (Some end) after (t.refs ++ read) (t.printed ++ put) final
   ends_by before after t read put end h is =
@@ -140,7 +140,7 @@ module _ (code : List ℕ) (size : ℕ) (object : Object) where
       (last.0, final, last.1, refl)
 
   odd_by : (before after : Regs) (t : State) (read put : List ℕ) (place word : ℕ) → Reaches code size (from before) t
-      → row code size t.regs ≡ told read put OddStep → after ≡ t.regs
+      → row code size t.regs ≡ printing_row read put OddStep → after ≡ t.regs
       → t.regs.place ≡ place → slice_index code t.regs.place ≡ word
       → (moves : ℕ) × (final : Final) × (exec (one code size) moves (from before) ≡ Over final)
       × Comes (Some (IsSpoilt place word)) after (t.refs ++ read) (t.printed ++ put) final
@@ -164,7 +164,7 @@ module _ (code : List ℕ) (size : ℕ) (object : Object) where
 
   last_runs : (before after : Regs) (t : State) (read put taken : List ℕ) (word : ℕ) (turn : Turn) (ending : Ending)
       → ending_of turn ≡ Some ending → Reaches code size (from before) t
-      → Follows (row code size t.regs) t.regs after read put taken t.regs.place word turn → t.regs.input ≡ taken ++ after.input
+      → RefinesTurn (row code size t.regs) t.regs after read put taken t.regs.place word turn → t.regs.input ≡ taken ++ after.input
       → slice_index code t.regs.place ≡ word
       → ((odd : Odd) → turn ≡ TurnSpoilt odd → after ≡ t.regs)
       → To before after t read put ending

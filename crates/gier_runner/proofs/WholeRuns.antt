@@ -10,11 +10,11 @@ use Rattle.gier_frames.specs.State.{State as Frames}
 use Rattle.gier_order.specs.Misses.{misses}
 use Rattle.gier_order.specs.declared.object.Object.{Object}
 use Rattle.gier_order.specs.Flat.Row.{Regs, Ending as FlatEnding}
-use Rattle.gier_order.specs.Flat.Run.{Final, Over, exec, one, initial_state, flat, Report, report_of}
+use Rattle.gier_order.specs.Flat.Run.{Final, Over, exec, one, machine_at_start, flat, Report, report_of}
 use Rattle.gier_order.proofs.Flat.Ends.{flat_is}
 use Rattle.gier_places.specs.Contents.{Contents, Agrees, LogsReads, StandsFor as PlacesFor, tracks_of as tracks_held}
 use Rattle.gier_places.specs.HeldTracks.{HeldTrack}
-use Rattle.gier_exec.specs.Registers.{begun_at}
+use Rattle.gier_exec.specs.Registers.{first_registers}
 use Rattle.gier_exec.specs.Rows.{regs_of}
 use Rattle.gier_exec.specs.References.{Refers, tracks_of}
 use Rattle.gier_exec.specs.Turning.{IsRest}
@@ -76,9 +76,9 @@ reports_so : (code : List ℕ) (given : Settings) (start : ℕ) (input : List �
     → Reports (flat_ending ending) (state given new) read put rest (flat code start input given.steps given.stack)
 reports_so code given start input old new read put rest ending so runs =
     let final : Final = runs.1 in
-    let begins : regs old input ≡ (initial_state start input given.steps).regs =
-    ap (λ m. regs_of m old.frames input) so.machine ∙ ap (λ f. regs_of (begun_at start given.steps) f input) so.frames ∙ begins_so start given.steps given.stack input in
-    let over : exec (one code given.stack) runs.0 (initial_state start input given.steps) ≡ Over final = subst (λ (m : Regs). exec (one code given.stack) runs.0 (from m) ≡ Over final) begins runs.2 in
+    let begins : regs old input ≡ (machine_at_start start input given.steps).regs =
+    ap (λ m. regs_of m old.frames input) so.machine ∙ ap (λ f. regs_of (first_registers start given.steps) f input) so.frames ∙ begins_so start given.steps given.stack input in
+    let over : exec (one code given.stack) runs.0 (machine_at_start start input given.steps) ≡ Over final = subst (λ (m : Regs). exec (one code given.stack) runs.0 (from m) ≡ Over final) begins runs.2 in
     reports_by (flat_ending ending) given new read put rest final _ (flat_is code given.stack start input given.steps runs.0 final over) runs.3
 
 pub unread_so : (s : Data) (left : Option (List ℕ)) → s.left ≡ left → s.given ≡ 0 → s.ended ≡ false → s ≡ unread left

@@ -7,8 +7,8 @@ use Rattle.std.proofs.lemmas.Bool.{cases_lt}
 use Rattle.gier_frames.specs.State.{fresh}
 use Rattle.gier_order.specs.declared.object.Object.{Object}
 use Rattle.gier_order.specs.Flat.Row.{Regs}
-use Rattle.gier_order.specs.Flat.Run.{initial_state}
-use Rattle.gier_exec.specs.Registers.{begun_at}
+use Rattle.gier_order.specs.Flat.Run.{machine_at_start}
+use Rattle.gier_exec.specs.Registers.{first_registers}
 use Rattle.gier_exec.specs.Rows.{regs_of, first_of, word_in, code_in}
 
 length_first : (f : ℕ → ℕ) (n : ℕ) → length (first_of f n) ≡ n
@@ -51,5 +51,5 @@ begins_with start steps input f = record {
 }
 
 -- a machine and frames that begin are where the flat run begins
-pub begins_so : (start steps size : ℕ) (input : List ℕ) → regs_of (begun_at start steps) (fresh size) input ≡ (initial_state start input steps).regs
+pub begins_so : (start steps size : ℕ) (input : List ℕ) → regs_of (first_registers start steps) (fresh size) input ≡ (machine_at_start start input steps).regs
 begins_so start steps size input = ap (begins_with start steps input) (fun_ext (zero_at size))

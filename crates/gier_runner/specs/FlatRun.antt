@@ -46,7 +46,14 @@ from m = record { regs = m; refs = []; printed = [] }
 
 -- it came to these registers where a run ended so, having read and printed this
 abbrev pub Comes : Option FlatEnding → Regs → (read put : List ℕ) → Final → Type 0
-Comes (Some ending) after read put final = final ≡ record { ending = ending; state = record { regs = after; refs = read; printed = put } }
+Comes (Some ending) after read put final = final ≡ record {
+  ending = ending;
+  state = record {
+    regs = after;
+    refs = read;
+    printed = put;
+  };
+}
 Comes None after read put final = IsPart read put after.input final.state.refs final.state.printed final.state.regs.input
 
 -- the flat run of an object, over a stack with so many words, from some registers to others

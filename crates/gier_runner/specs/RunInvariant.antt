@@ -22,9 +22,17 @@ pub record Devices : Type 0 where
   pub source_faults : ℕ
   pub sink_faults : ℕ
 
-abbrev pub devices : {D S K : Type 0} → (D → ℕ) → (D → Option (List (List ℕ))) → (D → Option (List Entry)) → (D → ℕ) → (S → ℕ) → (K → ℕ) → D → S → K → Devices
+abbrev pub devices : {D S K : Type 0} → (D → ℕ) → (D → Option (List (List ℕ))) → (D → Option (List Entry)) → (D → ℕ) → (S → ℕ)
+    → (K → ℕ) → D → S → K → Devices
 devices room tracks journal drum_faults source_faults sink_faults drum source sink =
-    record { room = room drum; tracks = tracks drum; journal = journal drum; drum_faults = drum_faults drum; source_faults = source_faults source; sink_faults = sink_faults sink }
+    record {
+      room = room drum;
+      tracks = tracks drum;
+      journal = journal drum;
+      drum_faults = drum_faults drum;
+      source_faults = source_faults source;
+      sink_faults = sink_faults sink;
+    }
 
 -- the parts of the run
 pub record Parts : Type 0 where

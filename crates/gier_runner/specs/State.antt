@@ -4,7 +4,7 @@ use Rattle.gier_frames.specs.State.{State as Frames, fresh as no_frames}
 use Rattle.gier_places.specs.Contents.{Contents, StandsFor as Places}
 use Rattle.gier_order.specs.Counts.{Counts, StandsFor as Counted, references_taken}
 use Rattle.gier_best.specs.TraceModel.{Traced, HasNoted, AreTracks}
-use Rattle.gier_exec.specs.Registers.{Registers, begun_at}
+use Rattle.gier_exec.specs.Registers.{Registers, first_registers}
 use Rattle.gier_runner.specs.declared.settings.Settings.{Settings}
 use Rattle.gier_runner.specs.declared.settings.Report.{Report}
 
@@ -29,7 +29,7 @@ pub record Agrees (s : State) : Type 0 where
 -- nothing was obeyed yet, and nothing is left of an earlier run
 pub record Begun (given : Settings) (start : ℕ) (s : State) : Type 0 where
   pub settings : s.settings ≡ given
-  pub machine : s.machine ≡ begun_at start given.steps
+  pub machine : s.machine ≡ first_registers start given.steps
   pub frames : s.frames ≡ no_frames given.stack
   pub places : s.places.places ≡ given.places
   pub empty : Places s.places []

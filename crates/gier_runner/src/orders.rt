@@ -5,7 +5,7 @@ ghost use Rattle.gier_places.specs.Contents.{Agrees};
 ghost use Rattle.gier_io.specs.Device.{Puts};
 ghost use Rattle.gier_library.specs.Data.{Takes};
 ghost use Rattle.gier_library.specs.DataView.{source_of, has_ended, stand_of};
-ghost use Rattle.gier_exec.specs.Reading.{tracks_for, seen};
+ghost use Rattle.gier_exec.specs.Reading.{tracks_for, view_of};
 ghost use Rattle.gier_exec.specs.Rows.{regs_of, code_in};
 ghost use Rattle.gier_exec.specs.References.{Refers};
 ghost use Rattle.gier_exec.specs.Turning.{IsRest};
@@ -26,7 +26,7 @@ use gier_places::Places;
 
 /// Obeys the orders from the machine's place on, and leaves the place at the one that ended the run.
 #[tactic(auto, using(crate::proofs::Numbers::next_counts, crate::proofs::OrdersTogether::reads_begin, crate::proofs::OrdersTogether::reads_more, crate::proofs::OrdersTogether::sizes_begin, crate::proofs::OrdersTogether::sizes_more, crate::proofs::OrdersTogether::risen_later))]
-pub(crate) fn obey<D: Drum, S: Source, K: Sink>(
+pub(crate) fn run_orders<D: Drum, S: Source, K: Sink>(
     m: &mut Machine,
     frames: &mut Frames,
     places: &mut Places,
@@ -44,8 +44,8 @@ pub(crate) fn obey<D: Drum, S: Source, K: Sink>(
     ensures place { m.new.place < object.now.words }
     ensures flat { (tracks : List (List ℕ)) → D.tracks drum.old ≡ Some tracks → Agrees (Some tracks) places.old.held
         → (read put taken : List ℕ)
-        × Refers object.now read (seen D.room D.tracks D.journal D.faults drum.old places.old recent.old trace.old)
-        (seen D.room D.tracks D.journal D.faults drum.new places.new recent.new trace.new)
+        × Refers object.now read (view_of D.room D.tracks D.journal D.faults drum.old places.old recent.old trace.old)
+        (view_of D.room D.tracks D.journal D.faults drum.new places.new recent.new trace.new)
         × Puts (K.holds out.old) put (K.holds out.new) × Takes (stand_of S.left input.old) taken (stand_of S.left input.new)
         × ((rest : List ℕ) → IsRest (has_ended input.new) rest
         → RunsTo (code_in tracks object.now) (length frames.old.words) (regs_of m.old frames.old (taken ++ rest))

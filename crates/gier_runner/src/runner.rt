@@ -11,7 +11,7 @@ ghost use Rattle.gier_frames.specs.Stop.{activations};
 ghost use Rattle.gier_frames.specs.State.{fresh as no_frames, all_zero};
 ghost use Rattle.gier_best.specs.TraceModel.{HasNoted, AreTracks, fresh as no_trace};
 ghost use Rattle.gier_exec.specs.Reading.{tracks_for};
-ghost use Rattle.gier_exec.specs.Registers.{begun_at};
+ghost use Rattle.gier_exec.specs.Registers.{first_registers};
 ghost use Rattle.gier_exec.specs.Rows.{code_in, regs_of};
 ghost use Rattle.gier_exec.specs.Turning.{IsRest};
 ghost use Rattle.gier_runner.specs.State.{report_of, Begun, Agrees};
@@ -20,7 +20,7 @@ ghost use Rattle.gier_runner.specs.Live.{live_of};
 ghost use Rattle.gier_runner.specs.FlatRun.{HasRead, Reports, flat_ending, unread, read_up};
 ghost use Rattle.gier_runner.specs.declared.ending.Ending.TheVariants.{Read, Write, Drum as DrumFailed};
 
-use crate::orders::obey;
+use crate::orders::run_orders;
 use crate::{Ending, Report, Settings};
 use gier_best::Trace;
 use gier_drum::Drum;
@@ -56,9 +56,23 @@ impl Model for Runner {
 
     ghost Value = { State };
 
-    ghost view = { λ r. record { settings = r.settings; machine = r.machine; frames = r.frames; places = r.places; recent = r.recent; trace = r.trace } };
+    ghost view = { λ r. record {
+      settings = r.settings;
+      machine = r.machine;
+      frames = r.frames;
+      places = r.places;
+      recent = r.recent;
+      trace = r.trace;
+    } };
 
-    ghost invariant = { λ r. Agrees (record { settings = r.settings; machine = r.machine; frames = r.frames; places = r.places; recent = r.recent; trace = r.trace }) };
+    ghost invariant = { λ r. Agrees (record {
+      settings = r.settings;
+      machine = r.machine;
+      frames = r.frames;
+      places = r.places;
+      recent = r.recent;
+      trace = r.trace;
+    }) };
 }
 
 impl Runner {
@@ -132,7 +146,7 @@ impl Runner {
     {
         self.begin(object.start);
         let mut data = Data::of(input);
-        obey(
+        run_orders(
             &mut self.machine,
             &mut self.frames,
             &mut self.places,

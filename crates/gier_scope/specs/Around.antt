@@ -4,7 +4,8 @@ use Rattle.std.specs.Prelude.{◌++◌, ℕ, suc, List, [], ◌∷◌}
 use Rattle.gier_tree.specs.Declaring.{formals_of, labels_of_statement}
 use Rattle.gier_tree.specs.OwnCount.{owns_of_program}
 use Rattle.gier_tree.specs.Trees.{Name, LabelPlace, Heading, Declaration, Declarations, Statement, Statements, Program}
-use Rattle.gier_scope.specs.Scopes.{Scope, scope_of, standard_scope, label_names, block_scope, procedure_scope, turn_scope, program_scope}
+use Rattle.gier_scope.specs.Scopes.{Scope, scope_of, standard_scope, label_names, block_scope, procedure_scope, turn_scope}
+use Rattle.gier_scope.specs.Scopes.{program_scope}
 
 -- the innermost scope is the first one
 pub record Around : Type 0 where

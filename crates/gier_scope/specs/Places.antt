@@ -4,13 +4,15 @@ use Rattle.std.specs.Prelude.{◌++◌, ◌&&◌, ℕ, not, nat_lt, List, [], �
 use Rattle.std.specs.List.{flat_map}
 use Rattle.gier_tree.specs.Declaring.{list_of, formals_of}
 use Rattle.gier_tree.specs.Trees.{Name, ValuePart, NoValues, ValueList, Heading, MkHeading}
-use Rattle.gier_scope.specs.Faults.{DeclaredTwice, NotDeclared, LocalInBound, NotFormal, SpecifiedTwice, NotSpecified, TooDeep, ScopeFaults, fault_where}
+use Rattle.gier_scope.specs.Faults.{DeclaredTwice, NotDeclared, LocalInBound, NotFormal, SpecifiedTwice, NotSpecified, TooDeep}
+use Rattle.gier_scope.specs.Faults.{ScopeFaults, fault_where}
 use Rattle.gier_scope.specs.Scopes.{Scope, scope_of, declares, is_declared}
 
 -- of the places of a scope that declare one identifier, each but the first one has a fault
 abbrev pub declared_twice : (before : Scope) → List Name → ScopeFaults
 declared_twice before [] = []
-declared_twice before (x ∷ xs) = fault_where (declares before x.number) DeclaredTwice x.line ++ declared_twice (x.number ∷ before) xs
+declared_twice before (x ∷ xs) =
+    fault_where (declares before x.number) DeclaredTwice x.line ++ declared_twice (x.number ∷ before) xs
 
 -- a use has a fault where no scope around it declares the identifier
 abbrev pub not_declared : List Scope → List Name → ScopeFaults
@@ -21,7 +23,8 @@ not_declared scopes xs = flat_map (λ x. fault_where (not (is_declared scopes x.
 abbrev pub in_bound : List Scope → Name → ScopeFaults
 in_bound [] x = []
 in_bound (block ∷ outer) x =
-    fault_where (declares block x.number) LocalInBound x.line ++ fault_where (not (is_declared (block ∷ outer) x.number)) NotDeclared x.line
+    fault_where (declares block x.number) LocalInBound x.line
+    ++ fault_where (not (is_declared (block ∷ outer) x.number)) NotDeclared x.line
 
 abbrev pub in_bounds : List Scope → List Name → ScopeFaults
 in_bounds scopes xs = flat_map (in_bound scopes) xs

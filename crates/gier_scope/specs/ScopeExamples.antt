@@ -5,7 +5,8 @@ use Rattle.gier_symbol.specs.Assembly.{assembly}
 use Rattle.gier_symbol.specs.Listing.{FaultAt}
 use Rattle.gier_symbol.specs.Reading.{symbols_of}
 use Rattle.gier_tree.specs.Structure.{program_spelled}
-use Rattle.gier_scope.specs.Faults.{ScopeFault, DeclaredTwice, NotDeclared, LocalInBound, NotFormal, SpecifiedTwice, NotSpecified, ScopeFaults}
+use Rattle.gier_scope.specs.Faults.{ScopeFault, DeclaredTwice, NotDeclared, LocalInBound, NotFormal, SpecifiedTwice, NotSpecified}
+use Rattle.gier_scope.specs.Faults.{ScopeFaults}
 use Rattle.gier_scope.specs.ScopeFaults.{scope_faults}
 
 abbrev pub fault : ScopeFault → (line : ℕ) → FaultAt ScopeFault
@@ -354,8 +355,10 @@ pub record AreScoped : Type 0 where
   pub undeclared_variable_told : faults_in undeclared_variable ≡ Some (
       fault NotDeclared 1 ∷ fault NotDeclared 2 ∷ fault NotDeclared 3 ∷ [])
   pub declared_variable_told : faults_in declared_variable ≡ Some ([])
-  pub undeclared_behind_told : faults_in undeclared_behind ≡ Some (fault NotDeclared 2 ∷ fault NotDeclared 2 ∷ fault NotDeclared 3 ∷ [])
-  pub undeclared_behind_procedure_told : faults_in undeclared_behind_procedure ≡ Some (fault NotDeclared 2 ∷ fault NotDeclared 3 ∷ [])
+  pub undeclared_behind_told : faults_in undeclared_behind
+      ≡ Some (fault NotDeclared 2 ∷ fault NotDeclared 2 ∷ fault NotDeclared 3 ∷ [])
+  pub undeclared_behind_procedure_told : faults_in undeclared_behind_procedure
+      ≡ Some (fault NotDeclared 2 ∷ fault NotDeclared 3 ∷ [])
   pub undeclared_behind_own_told : faults_in undeclared_behind_own ≡ Some (fault NotDeclared 2 ∷ [])
   pub undeclared_into_loop_told : faults_in undeclared_into_loop ≡ Some (fault NotDeclared 2 ∷ fault NotDeclared 3 ∷ [])
   pub declared_out_of_loop_told : faults_in declared_out_of_loop ≡ Some ([])
@@ -368,7 +371,8 @@ pub record AreScoped : Type 0 where
       fault NotDeclared 1 ∷ fault NotDeclared 1 ∷ fault NotDeclared 2 ∷ fault NotDeclared 2 ∷ [])
   pub declared_later_told : faults_in declared_later ≡ Some ([])
   pub undeclared_sibling_told : faults_in undeclared_sibling ≡ Some (fault NotDeclared 2 ∷ [])
-  pub local_variable_told : faults_in local_variable ≡ Some (fault LocalInBound 1 ∷ fault LocalInBound 2 ∷ fault LocalInBound 3 ∷ [])
+  pub local_variable_told : faults_in local_variable
+      ≡ Some (fault LocalInBound 1 ∷ fault LocalInBound 2 ∷ fault LocalInBound 3 ∷ [])
   pub outer_variable_told : faults_in outer_variable ≡ Some ([])
   pub local_later_told : faults_in local_later ≡ Some (fault LocalInBound 1 ∷ fault LocalInBound 1 ∷ fault LocalInBound 2 ∷ [])
   pub local_procedure_told : faults_in local_procedure ≡ Some (fault LocalInBound 2 ∷ [])

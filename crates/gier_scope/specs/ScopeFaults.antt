@@ -2,7 +2,12 @@
 -- those of its parts, by what stands around it; what is wrong at a single place is said in Places.
 use Rattle.std.specs.Prelude.{◌++◌, ℕ, suc, List, [], ◌∷◌}
 use Rattle.gier_tree.specs.Declaring.{list_of, name_of_heading, names_of_segment, own_names, labels_of_unconditional}
-use Rattle.gier_tree.specs.Trees.{Name, Segment, MkSegment, NextSegment, Heading, MkHeading, LabelPlace, Declaration, DeclareType, DeclareOwn, DeclareArrays, DeclareOwnArrays, DeclareSwitch, DeclareProcedure, Declarations, NoDeclarations, MoreDeclarations, Group, MkBlock, MkCompound, Statements, NoStatements, MoreStatements, Statement, OneUnconditional, OneConditional, OneLoop, Unconditional, MkUnconditional, Basic, OneGroup, Assign, Jump, CallStatement, Dummy, Conditional, IfThen, IfElse, IfLoop, Loop, MkLoop, Program, MkProgram}
+use Rattle.gier_tree.specs.Trees.{Name, Segment, MkSegment, NextSegment, Heading, MkHeading, LabelPlace, Declaration, DeclareType}
+use Rattle.gier_tree.specs.Trees.{DeclareOwn, DeclareArrays, DeclareOwnArrays, DeclareSwitch, DeclareProcedure, Declarations}
+use Rattle.gier_tree.specs.Trees.{NoDeclarations, MoreDeclarations, Group, MkBlock, MkCompound, Statements, NoStatements}
+use Rattle.gier_tree.specs.Trees.{MoreStatements, Statement, OneUnconditional, OneConditional, OneLoop, Unconditional}
+use Rattle.gier_tree.specs.Trees.{MkUnconditional, Basic, OneGroup, Assign, Jump, CallStatement, Dummy, Conditional, IfThen}
+use Rattle.gier_tree.specs.Trees.{IfElse, IfLoop, Loop, MkLoop, Program, MkProgram}
 use Rattle.gier_scope.specs.Around.{Around, behind, behind_labels, behind_statement, in_block, in_procedure, in_turn, in_program}
 use Rattle.gier_scope.specs.Faults.{ScopeFaults}
 use Rattle.gier_scope.specs.Places.{declared_twice, not_declared, in_bounds, heading_faults, too_deep}
@@ -74,7 +79,8 @@ abbrev mutual
   faults_basic a Dummy = []
 
   pub faults_conditional : Around → Conditional → ScopeFaults
-  faults_conditional a (IfThen ls l e m u) = labels_in a ls ++ uses_in a (uses_expr e) ++ faults_unconditional (behind_labels ls a) u
+  faults_conditional a (IfThen ls l e m u) =
+      labels_in a ls ++ uses_in a (uses_expr e) ++ faults_unconditional (behind_labels ls a) u
   faults_conditional a (IfElse ls l e m u n s) =
       let b = behind_labels ls a in
       labels_in a ls ++ uses_in a (uses_expr e) ++ faults_unconditional b u

@@ -3,8 +3,11 @@
 -- its declaration. What an identifier is declared as isn't told here, since no fault of scopes asks it.
 use Rattle.std.specs.Prelude.{◌==◌, ◌++◌, ℕ, Bool, List, [], ◌∷◌, map}
 use Rattle.std.specs.List.{list_any}
-use Rattle.gier_tree.specs.Declaring.{list_of, names_of_segment, names_of_segments, own_names, formals_of, name_of_heading, labels_of_statement, labels_of_statements, labels_of_program}
-use Rattle.gier_tree.specs.Trees.{Name, LabelPlace, Heading, Declaration, DeclareType, DeclareOwn, DeclareArrays, DeclareOwnArrays, DeclareSwitch, DeclareProcedure, Declarations, NoDeclarations, MoreDeclarations, Statement, Statements, Program}
+use Rattle.gier_tree.specs.Declaring.{list_of, names_of_segment, names_of_segments, own_names, formals_of, name_of_heading}
+use Rattle.gier_tree.specs.Declaring.{labels_of_statement, labels_of_statements, labels_of_program}
+use Rattle.gier_tree.specs.Trees.{Name, LabelPlace, Heading, Declaration, DeclareType, DeclareOwn, DeclareArrays}
+use Rattle.gier_tree.specs.Trees.{DeclareOwnArrays, DeclareSwitch, DeclareProcedure, Declarations, NoDeclarations}
+use Rattle.gier_tree.specs.Trees.{MoreDeclarations, Statement, Statements, Program}
 
 -- the numbers of the identifiers that it declares
 abbrev pub Scope : Type 0
@@ -42,7 +45,8 @@ label_names ls = map (λ l. l.name) ls
 
 -- a block declares what its declarations do, and the labels of its statements
 abbrev pub block_scope : Declaration → Declarations → Statement → Statements → Scope
-block_scope d ds s ss = scope_of (declared_by d ++ declared_by_all ds ++ label_names (labels_of_statement s (labels_of_statements ss [])))
+block_scope d ds s ss =
+    scope_of (declared_by d ++ declared_by_all ds ++ label_names (labels_of_statement s (labels_of_statements ss [])))
 
 -- a procedure declares its formals, and the labels of its body that stand in no block there
 abbrev pub procedure_scope : Heading → Statement → Scope

@@ -1,4 +1,5 @@
-// The faults of scopes: which declarations and uses of identifiers are wrong, and where. It holds definitions and their laws, no code.
+// The faults of scopes: which declarations and uses of identifiers are wrong, and where. It holds definitions and their laws,
+// no code.
 #![tactic(auto)]
 
 mod laws;

@@ -1,10 +1,9 @@
-// What the programs do alike: the words of the command line as text, the answers to `--help` and `--version`, and the top
-// call between standard input and standard output. Each program brings its own drum.
+// What the programs do alike: the answers to `--help` and `--version`, and the top call between the tape and standard output,
+// with what is said on standard error. Each program brings its own drum.
 #![tactic(auto)]
 
-mod arguments;
 mod serving;
 mod tape;
 
-pub use arguments::read_arguments;
+pub use gier_console::{CommandLine, LONGEST_PATH, read_arguments, read_command_line};
 pub use serving::{About, end, serve, tell};

@@ -1,11 +1,16 @@
-// The top call between standard input and standard output, and what is said on standard error.
+// The top call between the tape and standard output, and what is said on standard error.
 use crate::tape::Tape;
+use gier_console::{CommandLine, Printed, ProgramText, TapeReader, explain, is_path};
 use gier_drum::Drum;
 use gier_io::{StdSink, StdSource};
 use gier_job::{Status, gier, read_words, status_text};
-use std::io;
 use std::io::{BufReader, BufWriter, IsTerminal, Read, Write};
 use std::process::ExitCode;
+use std::rt::Files;
+use std::{fs, io};
+
+// So much of what is printed is kept back.
+const BUFFER: usize = 8192;
 
 /// What a program says of itself.
 #[derive(Debug, Clone, Copy)]
@@ -34,63 +39,135 @@ fn say(rt: &impl Print, text: &str) -> Status {
     }
 }
 
-/// Does what the words ask for over a drum, with standard input as the tape and standard output as the printer. A wrong word
-/// is named on standard error.
-pub fn serve<R: Input + Print + Eprint + AllocGlobal, D: Drum>(
+/// Does what the words ask for over a drum, with standard output as the printer. The tape is the file that the command line
+/// names, and standard input behind it where the file holds no mark, or standard input alone. A wrong word, a file that can't be
+/// read and each error of the program are explained on standard error.
+pub fn serve<R: Input + Print + Eprint + Files + AllocGlobal, D: Drum>(
     rt: &R,
     about: &About,
-    words: &[String],
+    line: &CommandLine,
     drum: &mut D,
 ) -> Status
 where
     R::Reader: IsTerminal,
 {
-    let reader = rt.reader();
-    let status = if reader.is_terminal() {
-        // What was printed is to be seen before the program waits for input, so the printer keeps nothing back.
-        run(rt, words, reader, io::writer(rt), drum)
-    } else {
-        match BufWriter::new(rt.alloc(), io::writer(rt)) {
-            Ok(writer) => run(rt, words, reader, writer, drum),
-            Err(_) => Status::Memory,
-        }
-    };
-    if status == Status::Words {
-        explain(rt, about, words);
+    match open_tape(rt, about, line) {
+        Ok(file) => run(rt, about, line, file, drum),
+        Err(status) => status,
     }
-    status
+}
+
+// The file of the tape, where the command line names one. A wrong word is told before a file that can't be opened.
+fn open_tape<R: Eprint + Files>(
+    rt: &R,
+    about: &About,
+    line: &CommandLine,
+) -> Result<Option<R::File>, Status> {
+    let Some(path) = &line.tape else {
+        return Ok(None);
+    };
+    match fs::open(rt, path.as_str()) {
+        Ok(file) => Ok(Some(file)),
+        Err(_) if read_words(line.words.as_slice()).is_err() => Ok(None),
+        Err(error) => {
+            refuse(rt, about, path.as_str(), &error);
+            Err(Status::Tape)
+        }
+    }
 }
 
 // The tape is read through a buffer, and what is printed is out before this returns.
-fn run<R: AllocGlobal, I: Read + Drop, W: Write + Drop, D: Drum>(
+fn run<R: Input + Print + Eprint + Files + AllocGlobal, D: Drum>(
     rt: &R,
-    words: &[String],
-    reader: I,
-    writer: W,
+    about: &About,
+    line: &CommandLine,
+    file: Option<R::File>,
     drum: &mut D,
-) -> Status {
-    let Ok(reader) = BufReader::new(rt.alloc(), reader) else {
+) -> Status
+where
+    R::Reader: IsTerminal,
+{
+    let alloc = rt.alloc();
+    let input = rt.reader();
+    // At a terminal what was printed is to be seen before the program waits for input, so the printer keeps nothing back.
+    let buffer = if input.is_terminal() { 0 } else { BUFFER };
+    let Ok(writer) = BufWriter::with_capacity(alloc, buffer, Printed::new(alloc, io::writer(rt)))
+    else {
+        return Status::Memory;
+    };
+    let Ok(reader) = BufReader::new(alloc, TapeReader::new(alloc, file, input)) else {
         return Status::Memory;
     };
     let mut tape = Tape::of(StdSource::of(reader));
     let mut printer = StdSink::of(writer);
-    let status = gier(rt.alloc(), words, &mut tape, &mut printer, drum);
-    match printer.into_inner().flush() {
+    let status = gier(alloc, line.words.as_slice(), &mut tape, &mut printer, drum);
+    let mut writer = printer.into_inner();
+    let flushed = writer.flush();
+    let status = match flushed {
         Err(_) if status.number() < Status::Tape.number() => Status::Printer,
         _ => status,
+    };
+    let (text, refusal) = tape.into_inner().into_inner().into_inner().into_parts();
+    let printed = writer.get_ref().beginning();
+    comment(rt, about, line, status, printed, &text, refusal.as_ref());
+    status
+}
+
+// Says on standard error what helps with this status.
+fn comment<R: Eprint + Files>(
+    rt: &R,
+    about: &About,
+    line: &CommandLine,
+    status: Status,
+    printed: &[u8],
+    text: &ProgramText,
+    refusal: Option<&io::Error>,
+) {
+    let path = line.tape.as_ref().map(|path| path.as_str());
+    match status {
+        Status::Words => name_wrong_word(rt, about, line.words.as_slice()),
+        Status::Errors => explain(rt, about.name, path, printed, text.bytes()),
+        Status::Tape => {
+            if let Some(error) = refusal {
+                refuse(rt, about, path.unwrap_or(""), error);
+            }
+        }
+        _ => {}
     }
 }
 
-// Names the wrong word on standard error.
-fn explain(rt: &impl Eprint, about: &About, words: &[String]) {
+// Names the wrong word. One that is the name of a file was meant as the tape.
+fn name_wrong_word<R: Eprint + Files>(rt: &R, about: &About, words: &[String]) {
     let name = about.name;
     let Err(number) = read_words(words) else {
         return;
     };
-    let _ = match words.get(number as usize - 1) {
-        Some(word) => eprintln!(rt; "{name}: word {number}, {word:?}, is wrong; try {name} --help"),
-        None => eprintln!(rt; "{name}: word {number} is missing; try {name} --help"),
+    let Some(word) = words.get(number as usize - 1) else {
+        let _ = eprintln!(rt; "{name}: word {number} is missing; try {name} --help");
+        return;
     };
+    let _ = eprintln!(rt; "{name}: word {number}, {word:?}, is wrong; try {name} --help");
+    let word = word.as_str();
+    if is_file(rt, word) {
+        let folder = if is_path(word) { "" } else { "./" };
+        let command = if number == 1 { "run " } else { "" };
+        let _ = eprintln!(rt;
+            "{name}: there is a file {word}: as the tape, write {command}{folder}{word} last"
+        );
+    }
+}
+
+fn is_file<R: Files>(rt: &R, path: &str) -> bool {
+    match fs::metadata(rt, path) {
+        Ok(about) => about.is_file(),
+        Err(_) => false,
+    }
+}
+
+// Names a file that can't be opened or read.
+fn refuse(rt: &impl Eprint, about: &About, path: &str, error: &io::Error) {
+    let name = about.name;
+    let _ = eprintln!(rt; "{name}: {path}: {error}");
 }
 
 /// The exit status of a program that ends so. A status that is nothing the program on the tape did is named on standard error.

@@ -1,4 +1,4 @@
-// The tape as it comes from standard input.
+// The tape up to its end.
 ghost use Rattle.std.specs.Prelude.{◌≡◌, None};
 
 use gier_io::Source;
@@ -19,6 +19,11 @@ impl<S: Source> Tape<S> {
             inner,
             ended: false,
         }
+    }
+
+    /// The source.
+    pub(crate) fn into_inner(self) -> S {
+        self.inner
     }
 }
 

@@ -45,7 +45,8 @@ ended_by Quoted tag next = if is_quote next then answer_with tag else FaultBefor
 
 -- the answer to a byte, or to the end, behind these letters
 abbrev pub answer_to : Spelling → List ℕ → Option ℕ → Fed
-answer_to spelling letters next = if is_next_letter spelling next then More else answer_of (length letters) (word_ended spelling letters next)
+answer_to spelling letters next = if is_next_letter spelling next then More
+    else answer_of (length letters) (word_ended spelling letters next)
 
 -- the letters with the one that is fed
 abbrev pub with_letter : List ℕ → Option ℕ → List ℕ

@@ -65,7 +65,8 @@ impl WordReader {
     ///
     /// The word is behind the reader once it answers anything but `More`.
     pub fn feed(&mut self, byte: Option<u8>) -> Fed
-        ensures { (letters : List ℕ) → self.old ≡ behind self.old.spelling letters → Feeds self.old.spelling letters byte result self.new }
+        ensures { (letters : List ℕ) → self.old ≡ behind self.old.spelling letters
+            → Feeds self.old.spelling letters byte result self.new }
     {
         match letter_of(self.spelling, byte) {
             Some(letter) => {

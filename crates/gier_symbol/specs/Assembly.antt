@@ -1,10 +1,12 @@
 -- Identifiers and numbers assembled from letters and digits (Report 2.4, 2.5), and parameter commas (3.2.1, 4.7.1).
-use Rattle.std.specs.Prelude.{◌==◌, ◌&&◌, ◌||◌, ◌+◌, ◌*◌, ℕ, zero, suc, Bool, true, false, nat_lt, List, [], ◌∷◌, ◌++◌, length, map, take_while, codes, Option, None, Some}
+use Rattle.std.specs.Prelude.{◌==◌, ◌&&◌, ◌||◌, ◌+◌, ◌*◌, ℕ, zero, suc, Bool, true, false, nat_lt, List, [], ◌∷◌, ◌++◌, length}
+use Rattle.std.specs.Prelude.{map, take_while, codes, Option, None, Some}
 use Rattle.std.specs.List.{position, list_all}
 use Rattle.std.specs.Str.{bytes_eq}
 use Rattle.gier_symbol.specs.declared.symbol.Symbol.{Symbol}
 use Rattle.gier_symbol.specs.declared.tag.Tag.{Tag}
-use Rattle.gier_symbol.specs.declared.tag.Tag.TheVariants.{Letter, Digit, Identifier, Number, Comma, Colon, LeftParenthesis, RightParenthesis}
+use Rattle.gier_symbol.specs.declared.tag.Tag.TheVariants.{Letter, Digit, Identifier, Number, Comma, Colon, LeftParenthesis}
+use Rattle.gier_symbol.specs.declared.tag.Tag.TheVariants.{RightParenthesis}
 use Rattle.gier_symbol.specs.Bytes.{is_letter}
 use Rattle.gier_symbol.specs.ByTag.{sym, word}
 use Rattle.gier_symbol.specs.Listing.{FaultAt, SymbolFault, LargeNumber, Listing}
@@ -38,8 +40,10 @@ decimal before (s ∷ digits) = decimal (before * 10 + s.value) digits
 
 -- the runs of these symbols, where so many of them were taken already
 abbrev pub run_at : (letter digit : Bool) → Symbol → (rest : List Symbol) → ((taken : ℕ) → List Lexeme) → List Lexeme
-run_at true digit s rest go_on = AName (map byte_of (s ∷ take_while is_letter_or_digit rest)) s.line ∷ go_on (length (take_while is_letter_or_digit rest))
-run_at false true s rest go_on = ANumber (decimal 0 (s ∷ take_while (is Digit) rest)) s.line ∷ go_on (length (take_while (is Digit) rest))
+run_at true digit s rest go_on = AName (map byte_of (s ∷ take_while is_letter_or_digit rest)) s.line
+    ∷ go_on (length (take_while is_letter_or_digit rest))
+run_at false true s rest go_on = ANumber (decimal 0 (s ∷ take_while (is Digit) rest)) s.line
+    ∷ go_on (length (take_while (is Digit) rest))
 run_at false false s rest go_on = ASymbol s ∷ go_on 0
 
 abbrev pub runs : List Symbol → (taken : ℕ) → List Lexeme
@@ -49,7 +53,8 @@ runs (s ∷ rest) zero = run_at (is Letter s) (is Digit s) s rest (runs rest)
 
 -- the standard identifiers come first
 abbrev pub standard_names : List (List ℕ)
-standard_names = codes "outinteger" ∷ codes "outtext" ∷ codes "outcr" ∷ codes "outchar" ∷ codes "ininteger" ∷ codes "inchar" ∷ codes "abs" ∷ codes "sign" ∷ []
+standard_names = codes "outinteger" ∷ codes "outtext" ∷ codes "outcr" ∷ codes "outchar" ∷ codes "ininteger" ∷ codes "inchar"
+    ∷ codes "abs" ∷ codes "sign" ∷ []
 
 -- the number of a name: its place among the known ones, or the first one behind them
 abbrev pub number_by : Option ℕ → (known : List (List ℕ)) → ℕ
@@ -95,12 +100,16 @@ pieces [] known = []
 pieces (AName name line ∷ rest) known =
     let place = place_of name known in
     record { run = AName name line; symbol = sym Identifier (number_by place known) line } ∷ pieces rest (known_by place name known)
-pieces (ANumber value line ∷ rest) known = record { run = ANumber value line; symbol = sym Number (value_by (is_large value) value) line } ∷ pieces rest known
+pieces (ANumber value line ∷ rest) known = record {
+  run = ANumber value line;
+  symbol = sym Number (value_by (is_large value) value) line;
+} ∷ pieces rest known
 pieces (ASymbol s ∷ rest) known = record { run = ASymbol s; symbol = s } ∷ pieces rest known
 
 -- `)`, a name of letters only, `:` and `(` are a parameter comma, on the line of the `)`; its name has taken a number
 abbrev pub is_group : Lexeme → Lexeme → Lexeme → Lexeme → Bool
-is_group (ASymbol s) (AName name line) (ASymbol t) (ASymbol u) = is RightParenthesis s && list_all is_letter name && is Colon t && is LeftParenthesis u
+is_group (ASymbol s) (AName name line) (ASymbol t) (ASymbol u) = is RightParenthesis s && list_all is_letter name && is Colon t
+    && is LeftParenthesis u
 is_group a b c d = false
 
 abbrev pub begins_group : Piece → List Piece → Bool

@@ -3,7 +3,9 @@
 use Rattle.std.specs.Prelude.{◌==◌, ◌&&◌, ◌||◌, ℕ, Bool, true, false, nat_le, List, [], ◌∷◌, length, take, find, Option, None, Some}
 use Rattle.std.specs.Str.{bytes_eq}
 use Rattle.gier_symbol.specs.declared.tag.Tag.{Tag}
-use Rattle.gier_symbol.specs.declared.tag.Tag.TheVariants.{Plus, Minus, Times, Power, Less, NotGreater, Equal, NotLess, Greater, NotEqual, Comma, Colon, Semicolon, Becomes, LeftParenthesis, RightParenthesis, LeftBracket, RightBracket}
+use Rattle.gier_symbol.specs.declared.tag.Tag.TheVariants.{Plus, Minus, Times, Power, Less, NotGreater, Equal, NotLess, Greater}
+use Rattle.gier_symbol.specs.declared.tag.Tag.TheVariants.{NotEqual, Comma, Colon, Semicolon, Becomes, LeftParenthesis}
+use Rattle.gier_symbol.specs.declared.tag.Tag.TheVariants.{RightParenthesis, LeftBracket, RightBracket}
 use Rattle.gier_symbol.specs.declared.word.Spelling.{Spelling}
 use Rattle.gier_symbol.specs.Tags.{name_of}
 use Rattle.gier_symbol.specs.Words.{word_byte}
@@ -27,7 +29,8 @@ closing_brace = 125
 
 -- the signs, the double ones first
 abbrev pub sign_symbols : List Tag
-sign_symbols = NotGreater ∷ NotLess ∷ NotEqual ∷ Becomes ∷ Plus ∷ Minus ∷ Times ∷ Power ∷ Less ∷ Equal ∷ Greater ∷ Comma ∷ Colon ∷ Semicolon ∷ LeftParenthesis ∷ RightParenthesis ∷ LeftBracket ∷ RightBracket ∷ []
+sign_symbols = NotGreater ∷ NotLess ∷ NotEqual ∷ Becomes ∷ Plus ∷ Minus ∷ Times ∷ Power ∷ Less ∷ Equal ∷ Greater ∷ Comma ∷ Colon
+    ∷ Semicolon ∷ LeftParenthesis ∷ RightParenthesis ∷ LeftBracket ∷ RightBracket ∷ []
 
 abbrev pub begins_with : List ℕ → List ℕ → Bool
 begins_with name bytes = bytes_eq name (take (length name) bytes)
@@ -60,4 +63,5 @@ front_by false false false false false bytes = sign_front (sign_before bytes)
 
 -- what this byte and the following ones begin
 abbrev pub front_of : Spelling → (byte : ℕ) → (rest : List ℕ) → Front
-front_of spelling byte rest = front_by (is_layout byte) (is_letter byte) (is_digit byte) (byte == word_byte spelling) (byte == opening_brace) (byte ∷ rest)
+front_of spelling byte rest = front_by (is_layout byte) (is_letter byte) (is_digit byte) (byte == word_byte spelling)
+    (byte == opening_brace) (byte ∷ rest)

@@ -34,7 +34,9 @@ abbrev pub signs_bytes : List ℕ
 signs_bytes = codes "+-*^<<==>=><>,:;:=()[]"
 
 abbrev pub signs_read : Listing
-signs_read = listing (row 10 0 1 ∷ row 11 0 1 ∷ row 12 0 1 ∷ row 14 0 1 ∷ row 15 0 1 ∷ row 16 0 1 ∷ row 17 0 1 ∷ row 18 0 1 ∷ row 19 0 1 ∷ row 20 0 1 ∷ row 28 0 1 ∷ row 29 0 1 ∷ row 30 0 1 ∷ row 31 0 1 ∷ row 32 0 1 ∷ row 33 0 1 ∷ row 34 0 1 ∷ row 35 0 1 ∷ row 8 0 1 ∷ []) ([])
+signs_read = listing (row 10 0 1 ∷ row 11 0 1 ∷ row 12 0 1 ∷ row 14 0 1 ∷ row 15 0 1 ∷ row 16 0 1 ∷ row 17 0 1 ∷ row 18 0 1
+    ∷ row 19 0 1 ∷ row 20 0 1 ∷ row 28 0 1 ∷ row 29 0 1 ∷ row 30 0 1 ∷ row 31 0 1 ∷ row 32 0 1 ∷ row 33 0 1 ∷ row 34 0 1
+    ∷ row 35 0 1 ∷ row 8 0 1 ∷ []) ([])
 
 -- double signs have adjacent bytes
 abbrev pub sign_pairs_bytes : List ℕ
@@ -48,7 +50,8 @@ abbrev pub words_bytes : List ℕ
 words_bytes = codes "_begin _boolean_true" ++ (10 ∷ []) ++ codes "_own_ _End"
 
 abbrev pub words_read : Listing
-words_read = listing (row 36 0 1 ∷ row 48 0 1 ∷ row 26 0 1 ∷ row 55 0 2 ∷ row 1 69 2 ∷ row 1 110 2 ∷ row 1 100 2 ∷ row 8 0 2 ∷ []) (fault WrongWord 2 ∷ fault WrongWord 2 ∷ [])
+words_read = listing (row 36 0 1 ∷ row 48 0 1 ∷ row 26 0 1 ∷ row 55 0 2 ∷ row 1 69 2 ∷ row 1 110 2 ∷ row 1 100 2 ∷ row 8 0 2 ∷ [])
+    (fault WrongWord 2 ∷ fault WrongWord 2 ∷ [])
 
 -- a wrong word takes its letters
 abbrev pub wrong_words_bytes : List ℕ
@@ -62,7 +65,8 @@ abbrev pub strings_bytes : List ℕ
 strings_bytes = codes "{a{ }" ++ (10 ∷ []) ++ codes ";}b"
 
 abbrev pub strings_read : Listing
-strings_read = listing (row 5 0 1 ∷ row 6 97 1 ∷ row 6 123 1 ∷ row 6 32 1 ∷ row 6 125 1 ∷ row 6 10 1 ∷ row 6 59 2 ∷ row 7 0 2 ∷ row 1 98 2 ∷ row 8 0 2 ∷ []) ([])
+strings_read = listing (row 5 0 1 ∷ row 6 97 1 ∷ row 6 123 1 ∷ row 6 32 1 ∷ row 6 125 1 ∷ row 6 10 1 ∷ row 6 59 2 ∷ row 7 0 2
+    ∷ row 1 98 2 ∷ row 8 0 2 ∷ []) ([])
 
 -- an open string takes the rest
 abbrev pub open_string_bytes : List ℕ
@@ -118,7 +122,8 @@ abbrev pub wrong_bytes_bytes : List ℕ
 wrong_bytes_bytes = codes "'!}" ++ (34 ∷ []) ++ codes "?/"
 
 abbrev pub wrong_bytes_read : Listing
-wrong_bytes_read = listing (row 8 0 1 ∷ []) (fault WrongByte 1 ∷ fault WrongByte 1 ∷ fault WrongByte 1 ∷ fault WrongByte 1 ∷ fault WrongByte 1 ∷ fault WrongByte 1 ∷ [])
+wrong_bytes_read = listing (row 8 0 1 ∷ [])
+    (fault WrongByte 1 ∷ fault WrongByte 1 ∷ fault WrongByte 1 ∷ fault WrongByte 1 ∷ fault WrongByte 1 ∷ fault WrongByte 1 ∷ [])
 
 -- the quoted spelling
 abbrev pub quoted_bytes : List ℕ
@@ -132,7 +137,9 @@ abbrev pub quoted_faults_bytes : List ℕ
 quoted_faults_bytes = codes "!'begin''END 'X' _! 'IF'"
 
 abbrev pub quoted_faults_read : Listing
-quoted_faults_read = listing (row 1 98 1 ∷ row 1 101 1 ∷ row 1 103 1 ∷ row 1 105 1 ∷ row 1 110 1 ∷ row 1 69 1 ∷ row 1 78 1 ∷ row 1 68 1 ∷ row 38 0 1 ∷ row 8 0 1 ∷ []) (fault WrongWord 1 ∷ fault WrongWord 1 ∷ fault WrongWord 1 ∷ fault WrongByte 1 ∷ fault WrongByte 1 ∷ [])
+quoted_faults_read = listing (row 1 98 1 ∷ row 1 101 1 ∷ row 1 103 1 ∷ row 1 105 1 ∷ row 1 110 1 ∷ row 1 69 1 ∷ row 1 78 1
+    ∷ row 1 68 1 ∷ row 38 0 1 ∷ row 8 0 1 ∷ [])
+    (fault WrongWord 1 ∷ fault WrongWord 1 ∷ fault WrongWord 1 ∷ fault WrongByte 1 ∷ fault WrongByte 1 ∷ [])
 
 -- words in the skipped part
 abbrev pub quoted_skipped_bytes : List ℕ
@@ -181,21 +188,24 @@ abbrev pub large_bytes : List ℕ
 large_bytes = codes "549755813887;549755813888;0001"
 
 abbrev pub large_assembled : Listing
-large_assembled = listing (row 4 549755813887 1 ∷ row 30 0 1 ∷ row 4 0 1 ∷ row 30 0 1 ∷ row 4 1 1 ∷ row 8 0 1 ∷ []) (fault LargeNumber 1 ∷ [])
+large_assembled = listing (row 4 549755813887 1 ∷ row 30 0 1 ∷ row 4 0 1 ∷ row 30 0 1 ∷ row 4 1 1 ∷ row 8 0 1 ∷ [])
+    (fault LargeNumber 1 ∷ [])
 
 -- a parameter comma, whose name takes a number
 abbrev pub comma_bytes : List ℕ
 comma_bytes = codes "p(a)  t :" ++ (10 ∷ []) ++ codes "(b):(c)x"
 
 abbrev pub comma_assembled : Listing
-comma_assembled = listing (row 3 8 1 ∷ row 32 0 1 ∷ row 3 9 1 ∷ row 28 0 1 ∷ row 3 11 2 ∷ row 33 0 2 ∷ row 29 0 2 ∷ row 32 0 2 ∷ row 3 12 2 ∷ row 33 0 2 ∷ row 3 13 2 ∷ row 8 0 2 ∷ []) ([])
+comma_assembled = listing (row 3 8 1 ∷ row 32 0 1 ∷ row 3 9 1 ∷ row 28 0 1 ∷ row 3 11 2 ∷ row 33 0 2 ∷ row 29 0 2 ∷ row 32 0 2
+    ∷ row 3 12 2 ∷ row 33 0 2 ∷ row 3 13 2 ∷ row 8 0 2 ∷ []) ([])
 
 -- a digit in it, and no colon
 abbrev pub no_comma_bytes : List ℕ
 no_comma_bytes = codes "(a)t1:(b)c(d)e:f"
 
 abbrev pub no_comma_assembled : Listing
-no_comma_assembled = listing (row 32 0 1 ∷ row 3 8 1 ∷ row 33 0 1 ∷ row 3 9 1 ∷ row 29 0 1 ∷ row 32 0 1 ∷ row 3 10 1 ∷ row 33 0 1 ∷ row 3 11 1 ∷ row 32 0 1 ∷ row 3 12 1 ∷ row 33 0 1 ∷ row 3 13 1 ∷ row 29 0 1 ∷ row 3 14 1 ∷ row 8 0 1 ∷ []) ([])
+no_comma_assembled = listing (row 32 0 1 ∷ row 3 8 1 ∷ row 33 0 1 ∷ row 3 9 1 ∷ row 29 0 1 ∷ row 32 0 1 ∷ row 3 10 1 ∷ row 33 0 1
+    ∷ row 3 11 1 ∷ row 32 0 1 ∷ row 3 12 1 ∷ row 33 0 1 ∷ row 3 13 1 ∷ row 29 0 1 ∷ row 3 14 1 ∷ row 8 0 1 ∷ []) ([])
 
 -- from left to right
 abbrev pub two_commas_bytes : List ℕ

@@ -1,8 +1,10 @@
 -- The symbols of a program text (Report 2), and the faults of its bytes. What stands at the front of the bytes gives symbols or
 -- a fault, takes some bytes, and what is left is read in the same way: one rule for each front.
-use Rattle.std.specs.Prelude.{◌==◌, ◌+◌, ◌-◌, ℕ, zero, suc, Bool, true, false, List, [], ◌∷◌, length, drop, Option, None, Some, if◌then◌else◌}
+use Rattle.std.specs.Prelude.{◌==◌, ◌+◌, ◌-◌, ℕ, zero, suc, Bool, true, false, List, [], ◌∷◌, length, drop, Option, None, Some}
+use Rattle.std.specs.Prelude.{if◌then◌else◌}
 use Rattle.gier_symbol.specs.declared.symbol.Symbol.{Symbol}
-use Rattle.gier_symbol.specs.declared.tag.Tag.TheVariants.{Letter, Digit, StringBegin, StringByte, StringEnd, TextEnd, Semicolon, Begin, End}
+use Rattle.gier_symbol.specs.declared.tag.Tag.TheVariants.{Letter, Digit, StringBegin, StringByte, StringEnd, TextEnd}
+use Rattle.gier_symbol.specs.declared.tag.Tag.TheVariants.{Semicolon, Begin, End}
 use Rattle.gier_symbol.specs.declared.word.Spelling.{Spelling}
 use Rattle.gier_symbol.specs.declared.word.Spelling.TheVariants.{Plain, Quoted}
 use Rattle.gier_symbol.specs.Bytes.{Front, ALayout, ALetter, ADigit, AWord, AString, ASign, Other, front_of}
@@ -23,7 +25,11 @@ abbrev pub gives_symbols : List Symbol → (more : ℕ) → (fresh : Bool) → T
 gives_symbols symbols more fresh = record { gives = record { symbols = symbols; faults = [] }; more = more; fresh = fresh }
 
 abbrev pub gives_fault : SymbolFault → (line more : ℕ) → Taken
-gives_fault kind line more = record { gives = record { symbols = []; faults = record { kind = kind; line = line } ∷ [] }; more = more; fresh = false }
+gives_fault kind line more = record {
+  gives = record { symbols = []; faults = record { kind = kind; line = line } ∷ [] };
+  more = more;
+  fresh = false;
+}
 
 -- the line of what stands behind a byte
 abbrev pub line_behind : (byte line : ℕ) → ℕ
@@ -45,14 +51,18 @@ takes_comment true taken rest line = gives_symbols [] (taken + comment_length (d
 takes_comment false taken rest line = gives_fault WrongWord line taken
 
 -- the end word takes what is skipped behind it
-abbrev pub takes_known : (comment end : Bool) → (tag : ℕ) → (taken : ℕ) → Spelling → (fresh : Bool) → (rest : List ℕ) → (line : ℕ) → Taken
+abbrev pub takes_known : (comment end : Bool) → (tag : ℕ) → (taken : ℕ) → Spelling → (fresh : Bool) → (rest : List ℕ) → (line : ℕ)
+    → Taken
 takes_known true end tag taken spelling fresh rest line = takes_comment fresh taken rest line
-takes_known false true tag taken spelling fresh rest line = gives_symbols (word End line ∷ []) (taken + skipped_length spelling (drop taken rest) 0) false
-takes_known false false tag taken spelling fresh rest line = gives_symbols (record { tag = tag; value = 0; line = line } ∷ []) taken (tag == number_of Begin)
+takes_known false true tag taken spelling fresh rest line = gives_symbols (word End line ∷ [])
+    (taken + skipped_length spelling (drop taken rest) 0) false
+takes_known false false tag taken spelling fresh rest line = gives_symbols
+    (record { tag = tag; value = 0; line = line } ∷ []) taken (tag == number_of Begin)
 
 abbrev pub takes_word : Option ℕ → (taken : ℕ) → Spelling → (fresh : Bool) → (rest : List ℕ) → (line : ℕ) → Taken
 takes_word None taken spelling fresh rest line = gives_fault WrongWord line taken
-takes_word (Some tag) taken spelling fresh rest line = takes_known (tag == comment_word) (tag == number_of End) tag taken spelling fresh rest line
+takes_word (Some tag) taken spelling fresh rest line = takes_known (tag == comment_word)
+    (tag == number_of End) tag taken spelling fresh rest line
 
 -- the zero digit
 abbrev pub zero_byte : ℕ
@@ -63,9 +73,11 @@ abbrev pub taken_by : Front → Spelling → (fresh : Bool) → (byte : ℕ) →
 taken_by ALayout spelling fresh byte rest line = gives_symbols [] 0 fresh
 taken_by ALetter spelling fresh byte rest line = gives_symbols (sym Letter byte line ∷ []) 0 false
 taken_by ADigit spelling fresh byte rest line = gives_symbols (sym Digit (byte - zero_byte) line ∷ []) 0 false
-taken_by AWord spelling fresh byte rest line = takes_word (word_of spelling rest).tag (word_of spelling rest).taken spelling fresh rest line
+taken_by AWord spelling fresh byte rest line = takes_word (word_of spelling rest).tag
+    (word_of spelling rest).taken spelling fresh rest line
 taken_by AString spelling fresh byte rest line = takes_string (string_bytes rest 0) rest line
-taken_by (ASign sign) spelling fresh byte rest line = gives_symbols (word sign line ∷ []) (length (name_of sign) - 1) (number_of sign == number_of Semicolon)
+taken_by (ASign sign) spelling fresh byte rest line = gives_symbols (word sign line ∷ []) (length (name_of sign) - 1)
+    (number_of sign == number_of Semicolon)
 taken_by Other spelling fresh byte rest line = gives_fault WrongByte line 0
 
 -- what is read of these bytes, where so many of them were taken already, and the first one stands on this line

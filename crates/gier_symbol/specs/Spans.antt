@@ -54,4 +54,5 @@ skipped_step false false read go_on = suc (go_on 0)
 abbrev pub skipped_length : Spelling → List ℕ → (passed : ℕ) → ℕ
 skipped_length spelling [] passed = 0
 skipped_length spelling (byte ∷ rest) (suc passed) = suc (skipped_length spelling rest passed)
-skipped_length spelling (byte ∷ rest) zero = skipped_step (byte == semicolon) (byte == word_byte spelling) (word_of spelling rest) (skipped_length spelling rest)
+skipped_length spelling (byte ∷ rest) zero = skipped_step (byte == semicolon) (byte == word_byte spelling) (word_of spelling rest)
+    (skipped_length spelling rest)

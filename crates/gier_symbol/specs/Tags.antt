@@ -1,7 +1,17 @@
 -- The tags: their numbers, and the letters or signs with which the source spells them.
 use Rattle.std.specs.Prelude.{ℕ, List, [], codes}
 use Rattle.gier_symbol.specs.declared.tag.Tag.{Tag}
-use Rattle.gier_symbol.specs.declared.tag.Tag.TheVariants.{Letter, Digit, Identifier, Number, StringBegin, StringByte, StringEnd, TextEnd, Plus, Minus, Times, Div, Power, Less, NotGreater, Equal, NotLess, Greater, NotEqual, Not, And, Or, Impl, Equiv, True, False, Comma, Colon, Semicolon, Becomes, LeftParenthesis, RightParenthesis, LeftBracket, RightBracket, Begin, End, If, Then, Else, For, Step, Until, While, Do, Goto, Integer, Boolean, Array, Switch, Procedure, String, Label, Value, Own, LeadingPlus, LeadingMinus, LabelColon, Declaring, Formal, ValueListed, Specified, OpenMark, ShutMark, Entry, Description, Used, Place, Count, Operation, Subscripted, Called, OwnNumber, OwnEntry, Word, LabelPlace, LabelOrder, LabelWord, OpenRoom, Need, ObjectWords}
+use Rattle.gier_symbol.specs.declared.tag.Tag.TheVariants.{Letter, Digit, Identifier, Number, StringBegin, StringByte}
+use Rattle.gier_symbol.specs.declared.tag.Tag.TheVariants.{StringEnd, TextEnd, Plus, Minus, Times, Div, Power, Less, NotGreater}
+use Rattle.gier_symbol.specs.declared.tag.Tag.TheVariants.{Equal, NotLess, Greater, NotEqual, Not, And, Or, Impl, Equiv, True}
+use Rattle.gier_symbol.specs.declared.tag.Tag.TheVariants.{False, Comma, Colon, Semicolon, Becomes, LeftParenthesis}
+use Rattle.gier_symbol.specs.declared.tag.Tag.TheVariants.{RightParenthesis, LeftBracket, RightBracket, Begin, End, If, Then}
+use Rattle.gier_symbol.specs.declared.tag.Tag.TheVariants.{Else, For, Step, Until, While, Do, Goto, Integer, Boolean, Array}
+use Rattle.gier_symbol.specs.declared.tag.Tag.TheVariants.{Switch, Procedure, String, Label, Value, Own, LeadingPlus}
+use Rattle.gier_symbol.specs.declared.tag.Tag.TheVariants.{LeadingMinus, LabelColon, Declaring, Formal, ValueListed, Specified}
+use Rattle.gier_symbol.specs.declared.tag.Tag.TheVariants.{OpenMark, ShutMark, Entry, Description, Used, Place, Count}
+use Rattle.gier_symbol.specs.declared.tag.Tag.TheVariants.{Operation, Subscripted, Called, OwnNumber, OwnEntry, Word}
+use Rattle.gier_symbol.specs.declared.tag.Tag.TheVariants.{LabelPlace, LabelOrder, LabelWord, OpenRoom, Need, ObjectWords}
 
 -- the tag's number
 abbrev pub number_of : Tag → ℕ

@@ -1,7 +1,9 @@
 -- Which tags there are, and which of them stand in each of the eight texts.
 use Rattle.std.specs.Prelude.{◌==◌, ◌&&◌, ◌||◌, ◌+◌, ℕ, Bool, false, not, nat_le, nat_lt, if◌then◌else◌}
 use Rattle.gier_symbol.specs.declared.tag.Tag.{Tag}
-use Rattle.gier_symbol.specs.declared.tag.Tag.TheVariants.{Letter, Digit, Identifier, StringBegin, TextEnd, Plus, Equiv, Own, LeadingPlus, LeadingMinus, ShutMark, Description, Used, Place, Count, Operation, Called, OwnNumber, OwnEntry, Word, LabelWord, ObjectWords}
+use Rattle.gier_symbol.specs.declared.tag.Tag.TheVariants.{Letter, Digit, Identifier, StringBegin, TextEnd, Plus, Equiv, Own}
+use Rattle.gier_symbol.specs.declared.tag.Tag.TheVariants.{LeadingPlus, LeadingMinus, ShutMark, Description, Used, Place, Count}
+use Rattle.gier_symbol.specs.declared.tag.Tag.TheVariants.{Operation, Called, OwnNumber, OwnEntry, Word, LabelWord, ObjectWords}
 use Rattle.gier_symbol.specs.Tags.{number_of}
 
 -- an order's tag is this and the order's number
@@ -24,7 +26,8 @@ is_order_tag tag = nat_lt order_base tag && nat_le tag (order_base + last_order)
 
 -- any tag at all
 abbrev pub is_tag : ℕ → Bool
-is_tag tag = is_from Letter TextEnd tag || is_from Plus Own tag || is_from LeadingPlus OwnEntry tag || is_from Word ObjectWords tag || is_order_tag tag
+is_tag tag = is_from Letter TextEnd tag || is_from Plus Own tag || is_from LeadingPlus OwnEntry tag
+    || is_from Word ObjectWords tag || is_order_tag tag
 
 -- letters and digits one by one
 abbrev pub is_in_text1 : ℕ → Bool
@@ -48,7 +51,8 @@ is_in_text5 tag = (is_in_text4 tag && not (is_tag_of Identifier tag) && not (is_
 
 -- text 5 with operations behind their operands
 abbrev pub is_in_text6 : ℕ → Bool
-is_in_text6 tag = (is_in_text5 tag && not (is_from Plus Equiv tag) && not (is_from LeadingPlus LeadingMinus tag)) || is_from Operation Called tag
+is_in_text6 tag = (is_in_text5 tag && not (is_from Plus Equiv tag) && not (is_from LeadingPlus LeadingMinus tag))
+    || is_from Operation Called tag
 
 -- orders and words, with marks
 abbrev pub is_in_text7 : ℕ → Bool

@@ -1,17 +1,21 @@
 -- The words of a program in both spellings: which word a name is, and what the letters behind the first byte of a word
 -- give. Layout, signs, strings, comments and skipped parts aren't told here.
-use Rattle.std.specs.Prelude.{◌==◌, ◌&&◌, ◌+◌, ℕ, Bool, false, nat_le, if◌then◌else◌, List, [], ◌∷◌, length, map, find, take_while, slice_get, codes, Option, None, Some}
+use Rattle.std.specs.Prelude.{◌==◌, ◌&&◌, ◌+◌, ℕ, Bool, false, nat_le, if◌then◌else◌, List, [], ◌∷◌, length, map, find}
+use Rattle.std.specs.Prelude.{take_while, slice_get, codes, Option, None, Some}
 use Rattle.std.specs.Option.{option_map}
 use Rattle.std.specs.Str.{bytes_eq}
 use Rattle.gier_symbol.specs.declared.tag.Tag.{Tag}
-use Rattle.gier_symbol.specs.declared.tag.Tag.TheVariants.{Div, Not, And, Or, Impl, Equiv, True, False, Begin, End, If, Then, Else, For, Step, Until, While, Do, Goto, Integer, Boolean, Array, Switch, Procedure, String, Label, Value, Own}
+use Rattle.gier_symbol.specs.declared.tag.Tag.TheVariants.{Div, Not, And, Or, Impl, Equiv, True, False, Begin, End, If, Then}
+use Rattle.gier_symbol.specs.declared.tag.Tag.TheVariants.{Else, For, Step, Until, While, Do, Goto, Integer, Boolean, Array}
+use Rattle.gier_symbol.specs.declared.tag.Tag.TheVariants.{Switch, Procedure, String, Label, Value, Own}
 use Rattle.gier_symbol.specs.declared.word.Spelling.{Spelling}
 use Rattle.gier_symbol.specs.declared.word.Spelling.TheVariants.{Plain, Quoted}
 use Rattle.gier_symbol.specs.Tags.{number_of, name_of}
 
 -- the symbols that are spelled as words
 abbrev pub word_symbols : List Tag
-word_symbols = Div ∷ Not ∷ And ∷ Or ∷ Impl ∷ Equiv ∷ True ∷ False ∷ Begin ∷ End ∷ If ∷ Then ∷ Else ∷ For ∷ Step ∷ Until ∷ While ∷ Do ∷ Goto ∷ Integer ∷ Boolean ∷ Array ∷ Switch ∷ Procedure ∷ String ∷ Label ∷ Value ∷ Own ∷ []
+word_symbols = Div ∷ Not ∷ And ∷ Or ∷ Impl ∷ Equiv ∷ True ∷ False ∷ Begin ∷ End ∷ If ∷ Then ∷ Else ∷ For ∷ Step ∷ Until ∷ While
+    ∷ Do ∷ Goto ∷ Integer ∷ Boolean ∷ Array ∷ Switch ∷ Procedure ∷ String ∷ Label ∷ Value ∷ Own ∷ []
 
 -- the comment word is no symbol, but has a number like a tag
 abbrev pub comment_word : ℕ

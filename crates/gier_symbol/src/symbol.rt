@@ -2,6 +2,7 @@
 ghost use Rattle.std.specs.Prelude.{◌≡◌, ◌≢◌, ◌<◌, ◌^◌, IfSome, IfNone, slice_index};
 
 use crate::{LAST_ORDER, ORDER_BASE, Tag, is_tag};
+use gier_limits::LINES;
 
 /// A symbol of a text.
 ///
@@ -13,9 +14,6 @@ pub struct Symbol {
     pub value: u64,
     pub line: u32,
 }
-
-// What the tag is multiplied by in the first word; all lines are below it.
-const LINES: u64 = 1 << 24;
 
 // All values are below this number of words.
 const WORDS: u64 = 1 << 40;

@@ -1,6 +1,7 @@
 // Which tags there are, and which of them stand in each of the eight texts.
 ghost use Rattle.std.specs.Prelude.{◌≡◌};
-ghost use Rattle.gier_symbol.specs.Texts.{is_from, is_tag_of, is_order_tag, is_tag, is_in_text1, is_in_text2, is_in_text3, is_in_text4, is_in_text5, is_in_text6, is_in_text7, is_in_text8, stands_in};
+ghost use Rattle.gier_symbol.specs.Texts.{is_from, is_tag_of, is_order_tag, is_tag, is_in_text1, is_in_text2, is_in_text3};
+ghost use Rattle.gier_symbol.specs.Texts.{is_in_text4, is_in_text5, is_in_text6, is_in_text7, is_in_text8, stands_in};
 
 use crate::Tag;
 

@@ -3,7 +3,7 @@ use Rattle.std.proofs.Common.{◌≡◌, ◌≤◌, ◌<◌, ◌+◌, ◌*◌, �
 use Rattle.std.proofs.lemmas.List.{append-nil, get_or_at}
 use Rattle.gier_symbol.specs.Symbols.{code_of}
 use Rattle.gier_drum.specs.declared.drum.Entry.{Entry}
-use Rattle.gier_word.specs.Cause.{HasRisen}
+pub use Rattle.gier_word.proofs.Cause.{risen_from}
 use Rattle.gier_symbol.specs.declared.symbol.Symbol.{Symbol}
 use Rattle.gier_text.specs.Log.{Logged, LogsAll}
 use Rattle.gier_word.specs.declared.refusal.Odd.{Odd}
@@ -174,11 +174,6 @@ tracks_more first end first2 end2 old mid new h p q k = record {
 
 pub tracks_none : (first end : ℕ) (tracks : Option (List (List ℕ))) → KeepsTracks first end tracks tracks
 tracks_none first end tracks = record { told = refl; others = λ t out. refl }
-
--- a cause in a later part is a cause in the whole
-pub risen_from : (before mid now : ℕ) → before ≤ mid → HasRisen mid now → HasRisen before now
-risen_from before mid now le (inl lt) = inl (omega arith)
-risen_from before mid now le (inr end) = inr end
 
 -- what is left of a told list behind what was read
 pub left_told : (first : Option (List Symbol)) (all read : List Symbol) (now : Option (List Symbol)) → LeftFrom first read now → first ≡ Some all → (rest : List Symbol) × (all ≡ read ++ rest) × (now ≡ Some rest)

@@ -48,7 +48,8 @@ place_of n = min n (2 ^ 64 - 1)
 -- these are the place and the first word of the last of some symbols, and before the first both are 0
 abbrev pub NamesLast : List Symbol → Odd → Type 0
 NamesLast [] odd = (odd.place ≡ 0) × (odd.word ≡ 0)
-NamesLast (first ∷ more) odd = (before : List Symbol) × (last : Symbol) × (first ∷ more ≡ before ++ last ∷ []) × (odd.place ≡ place_of (length before)) × (odd.word ≡ last.tag * 2 ^ 24 + last.line)
+NamesLast (first ∷ more) odd = (before : List Symbol) × (last : Symbol) × (first ∷ more ≡ before ++ last ∷ [])
+    × (odd.place ≡ place_of (length before)) × (odd.word ≡ last.tag * 2 ^ 24 + last.line)
 
 -- these name the symbol of a text that was read last
 pub record NamesLastRead (old new : View) (odd : Odd) : Type 0 where

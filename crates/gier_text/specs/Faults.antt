@@ -3,7 +3,11 @@ use Rattle.std.specs.Prelude.{ℕ, List, codes}
 use Rattle.gier_symbol.specs.Listing.{FaultAt, SymbolFault, WrongByte, WrongWord, OpenString, LargeNumber}
 use Rattle.gier_text.specs.declared.fault.Fault.{Fault}
 use Rattle.gier_text.specs.declared.fault.FaultKind.{FaultKind}
-use Rattle.gier_text.specs.declared.fault.FaultKind.TheVariants.{TooLong, Character, Word, Unclosed, Number, Structure, DeclaredTwice, NotDeclared, LocalInBound, NotFormal, SpecifiedTwice, NotSpecified, Level, ListTooLong, Value, Kind, Subscripts, ParameterCount, Parameter, Bound, ForElement, Condition, Branches, Designational, Assignment, Operand}
+use Rattle.gier_text.specs.declared.fault.FaultKind.TheVariants.{TooLong, Character, Word, Unclosed, Number, Structure}
+use Rattle.gier_text.specs.declared.fault.FaultKind.TheVariants.{DeclaredTwice, NotDeclared, LocalInBound, NotFormal}
+use Rattle.gier_text.specs.declared.fault.FaultKind.TheVariants.{SpecifiedTwice, NotSpecified, Level, ListTooLong, Value, Kind}
+use Rattle.gier_text.specs.declared.fault.FaultKind.TheVariants.{Subscripts, ParameterCount, Parameter, Bound, ForElement}
+use Rattle.gier_text.specs.declared.fault.FaultKind.TheVariants.{Condition, Branches, Designational, Assignment, Operand}
 
 abbrev pub text_of_fault : FaultKind → List ℕ
 text_of_fault TooLong = codes "program too long"

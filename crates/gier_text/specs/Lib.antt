@@ -1,5 +1,6 @@
 pub mod Remaining
 pub mod View
+pub mod Turned
 pub mod Stops
 pub mod SymbolsOnTracks
 pub mod Log

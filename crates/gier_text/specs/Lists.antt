@@ -1,5 +1,6 @@
 -- The lists of a pass: what they hold, and how they lie one behind the other in the words of the tables.
-use Rattle.std.specs.Prelude.{◌<◌, ◌≤◌, ◌+◌, ◌*◌, ◌^◌, ◌++◌, ℕ, List, [], length, take, drop, slice_index, slice_index_or, slice_set}
+use Rattle.std.specs.Prelude.{◌<◌, ◌≤◌, ◌+◌, ◌*◌, ◌^◌, ◌++◌, ℕ, List, [], length, take, drop, slice_index, slice_index_or}
+use Rattle.std.specs.Prelude.{slice_set}
 use Rattle.gier_text.specs.declared.extent.Extent.{Extent}
 
 -- a list whose entries have so many words each; the words of all its entries stand one behind the other

@@ -1,6 +1,7 @@
 -- What the calls of a text add to the journal of its store: a write of each track that is written, and a read of each
 -- that is read.
-use Rattle.std.specs.Prelude.{◌≡◌, ◌==◌, ℕ, ◌+◌, ◌-◌, ◌/◌, Bool, true, false, if◌then◌else◌, List, [], ◌∷◌, ◌++◌, Option, None, Some}
+use Rattle.std.specs.Prelude.{◌≡◌, ◌==◌, ℕ, ◌+◌, ◌-◌, ◌/◌, Bool, true, false, if◌then◌else◌, List, [], ◌∷◌, ◌++◌, Option, None}
+use Rattle.std.specs.Prelude.{Some}
 use Rattle.gier_drum.specs.declared.drum.Entry.{Entry}
 use Rattle.gier_drum.specs.declared.drum.Entry.TheVariants.{Read, Write}
 use Rattle.gier_text.specs.declared.text.Way.{Way}
@@ -36,7 +37,8 @@ writing_log fresh first n = if fresh then writes_of first n else []
 -- all entries of a text so far
 unfoldable pub log_of : Bool → Bool → ℕ → ℕ → Way → ℕ → List Entry
 log_of fresh false first count way loaded = writing_log fresh first (count / 20)
-log_of fresh true first count way loaded = writing_log fresh first (tracks_for count) ++ reads_of way first (tracks_for count) loaded
+log_of fresh true first count way loaded = writing_log fresh first (tracks_for count)
+    ++ reads_of way first (tracks_for count) loaded
 
 -- the entry of a read, where the track isn't there yet
 abbrev pub new_read : ℕ → ℕ → ℕ → List Entry

@@ -14,7 +14,8 @@ pub record InvariantHolds (stands : List Symbol → List Symbol → Type 0) (out
   pub counted : out.count ≡ length written
 
 -- the symbols that were taken, and these, begin a list that the pass expects
-pub record Expected (stands : List Symbol → List Symbol → Type 0) (expects : List Symbol → Type 0) (out : View) (more : List Symbol) : Type 0 where
+pub record Expected (stands : List Symbol → List Symbol → Type 0) (expects : List Symbol → Type 0) (out : View)
+    (more : List Symbol) : Type 0 where
   pub read : List Symbol
   pub written : List Symbol
   pub rest : List Symbol
@@ -45,4 +46,5 @@ SpoiltIf (Err (Spoilt odd)) P = P
 -- two lists of entries, one entry now of the one and now of the other
 abbrev pub Mixed : List Entry → List Entry → List Entry → Type 0
 Mixed reads writes [] = (reads ≡ []) × (writes ≡ [])
-Mixed reads writes (entry ∷ entries) = ((rest : List Entry) × (reads ≡ entry ∷ rest) × Mixed rest writes entries) ⊎ ((rest : List Entry) × (writes ≡ entry ∷ rest) × Mixed reads rest entries)
+Mixed reads writes (entry ∷ entries) = ((rest : List Entry) × (reads ≡ entry ∷ rest) × Mixed rest writes entries)
+    ⊎ ((rest : List Entry) × (writes ≡ entry ∷ rest) × Mixed reads rest entries)

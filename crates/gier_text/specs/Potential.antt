@@ -1,6 +1,7 @@
 -- How long the texts of the front become. A symbol weighs what it can come to in all later texts up to the sixth, so no pass adds
 -- weight, and a text of a program of so many bytes has at most eight times as many symbols and 64 more.
-use Rattle.std.specs.Prelude.{◌≤◌, ◌+◌, ◌*◌, ◌^◌, ◌==◌, ◌&&◌, ◌||◌, ℕ, Bool, not, nat_le, nat_lt, if◌then◌else◌, List, [], ◌∷◌, All, IsTrue}
+use Rattle.std.specs.Prelude.{◌≤◌, ◌+◌, ◌*◌, ◌^◌, ◌==◌, ◌&&◌, ◌||◌, ℕ, Bool, not, nat_le, nat_lt, if◌then◌else◌, List, [], ◌∷◌}
+use Rattle.std.specs.Prelude.{All, IsTrue}
 use Rattle.gier_symbol.specs.declared.symbol.Symbol.{Symbol}
 use Rattle.gier_symbol.specs.declared.tag.Tag.TheVariants.{Identifier, TextEnd, Declaring, Formal, Specified, Entry, Used}
 use Rattle.gier_symbol.specs.Texts.{stands_in, is_from, is_tag_of}
@@ -13,7 +14,8 @@ use Rattle.gier_symbol.specs.Texts.{stands_in, is_from, is_tag_of}
 abbrev pub potential_of : ℕ → ℕ → ℕ
 potential_of text tag =
     if text == 2 then 8
-    else (if text == 3 then (if is_tag_of Declaring tag then 6 else (if is_tag_of TextEnd tag then 5 else (if is_tag_of Identifier tag || is_tag_of Formal tag then 4 else 1)))
+    else (if text == 3 then (if is_tag_of Declaring tag then 6
+    else (if is_tag_of TextEnd tag then 5 else (if is_tag_of Identifier tag || is_tag_of Formal tag then 4 else 1)))
     else (if text == 4 then (if is_tag_of Identifier tag then 4 else 1)
     else (if text == 5 then (if is_tag_of Used tag then 2 else 1)
     else 1)))

@@ -1,5 +1,6 @@
 -- Symbols in the words of tracks, two words each and twenty on a track.
-use Rattle.std.specs.Prelude.{◌≡◌, Bool, ℕ, zero, suc, ◌+◌, ◌*◌, ◌/◌, ◌%◌, ◌==◌, List, [], ◌∷◌, ◌++◌, slice_index, slice_index_or, Option, None, Some, if◌then◌else◌}
+use Rattle.std.specs.Prelude.{◌≡◌, Bool, ℕ, zero, suc, ◌+◌, ◌*◌, ◌/◌, ◌%◌, ◌==◌, List, [], ◌∷◌, ◌++◌, slice_index}
+use Rattle.std.specs.Prelude.{slice_index_or, Option, None, Some, if◌then◌else◌}
 use Rattle.std.specs.Option.{option_map}
 use Rattle.gier_symbol.specs.declared.symbol.Symbol.{Symbol}
 use Rattle.gier_symbol.specs.Symbols.{symbol_of_code}
@@ -44,7 +45,8 @@ text_on tracks first count = all_symbols (symbols_of tracks first 0 [] count)
 
 unfoldable pub left_in : Option (List (List ℕ)) → ℕ → ℕ → List ℕ → ℕ → Way → ℕ → Option (List (Option Symbol))
 left_in None first loaded buffer count way unread = None
-left_in (Some tracks) first loaded buffer count way unread = Some (left_of way unread (tabulated (symbol_at tracks first loaded buffer) count))
+left_in (Some tracks) first loaded buffer count way unread = Some
+    (left_of way unread (tabulated (symbol_at tracks first loaded buffer) count))
 
 -- how many tracks a text of so many symbols fills
 abbrev pub tracks_for : ℕ → ℕ

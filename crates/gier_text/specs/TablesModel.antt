@@ -13,7 +13,12 @@ pub record TablesModel : Type 0 where
   pub faults : List Fault
 
 abbrev pub tables_model : Tables → TablesModel
-tables_model t = record { limit = t.limit; used = t.used; lists = map (list_in t.words.words) t.lists.items; faults = t.faults.items }
+tables_model t = record {
+  limit = t.limit;
+  used = t.used;
+  lists = map (list_in t.words.words) t.lists.items;
+  faults = t.faults.items;
+}
 
 -- no lists and no faults
 abbrev pub fresh : ℕ → TablesModel

@@ -1,5 +1,6 @@
 -- What a text is over a store, and what the calls of a text do.
-use Rattle.std.specs.Prelude.{◌≡◌, ◌≤◌, ◌<◌, ◌⊎◌, ℕ, ◌+◌, Bool, true, false, List, [], ◌∷◌, ◌++◌, length, reverse, Option, None, Some, slice_index_or, is_some}
+use Rattle.std.specs.Prelude.{◌≡◌, ◌≤◌, ◌<◌, ◌⊎◌, ℕ, ◌+◌, Bool, true, false, List, [], ◌∷◌, ◌++◌, length, reverse, Option, None}
+use Rattle.std.specs.Prelude.{Some, slice_index_or, is_some}
 use Rattle.gier_drum.specs.declared.drum.Entry.{Entry}
 use Rattle.gier_symbol.specs.declared.symbol.Symbol.{Symbol}
 use Rattle.gier_text.specs.declared.text.Way.{Way}
@@ -110,7 +111,8 @@ Apart first end other_first other_end = (end ≤ other_first) ⊎ (other_end ≤
 
 -- a call on a text keeps what each text apart from it is
 abbrev pub KeepsOthers : {T S : Type 0} → (T → S → View) → (T → ℕ) → (T → ℕ) → T → S → S → Type 0
-KeepsOthers {T} {S} view first end text old new = (other : T) → Apart (first text) (end text) (first other) (end other) → view other new ≡ view other old
+KeepsOthers {T} {S} view first end text old new = (other : T) → Apart (first text) (end text) (first other) (end other)
+    → view other new ≡ view other old
 
 -- a call keeps what each text is
 abbrev pub KeepsAll : {T S : Type 0} → (T → S → View) → S → S → Type 0

@@ -9,7 +9,8 @@ ghost use Rattle.gier_text.specs.TablesModel.{tables_model};
 ghost use Rattle.gier_text.specs.Log.{Logged};
 ghost use Rattle.gier_text.specs.Drive.{LogsBoth, IsReadWhole, pass_stop_of, at_symbol, SpoiltAs, NamesLastRead};
 ghost use Rattle.gier_text.specs.Passes.{HasLess, SpoiltIf};
-ghost use Rattle.gier_text.specs.View.{WritesAll, Writes, IsFull, IsEmpty, IsUnread, IsLeft, IsPlacedAs, Apart, KeepsTracks, KeepsOthers};
+ghost use Rattle.gier_text.specs.View.{WritesAll, Writes, IsFull, IsEmpty, IsUnread, IsLeft, IsPlacedAs, Apart, KeepsTracks};
+ghost use Rattle.gier_text.specs.View.{KeepsOthers};
 
 use crate::{Pass, PassStop, Tables, Text, TextStop, Way};
 use gier_symbol::{Alphabet, Symbol};
@@ -85,7 +86,8 @@ pub fn drive<P: Pass, T: Text>(
         × WritesAll (T.view output.old store.old) written (T.view output.new store.new)
         × P.relates pass.new tables.new read written) }
     ensures done { OnOk result (IsReadWhole (T.view input.old store.old) (T.view input.new store.new)) }
-    ensures logged { LogsBoth (T.view input.old store.old) (T.view input.new store.new) (T.view output.old store.old) (T.view output.new store.new) (T.journal store.old) (T.journal store.new) }
+    ensures logged { LogsBoth (T.view input.old store.old) (T.view input.new store.new) (T.view output.old store.old)
+        (T.view output.new store.new) (T.journal store.old) (T.journal store.new) }
     ensures input_place { IsPlacedAs T.first_track T.end_track input.old input.new }
     ensures output_place { IsPlacedAs T.first_track T.end_track output.old output.new }
     ensures room { T.room store.new ≡ T.room store.old }
@@ -95,9 +97,12 @@ pub fn drive<P: Pass, T: Text>(
     ensures failed { IsErrOf result Drum → HasRisen (T.faults store.old) (T.faults store.new) }
     ensures memory { IsErrOf result Memory → IsTrue T.grows }
     ensures full { IsErrOf result Full → ⊥ }
-    ensures spoilt { (all : List Symbol) → (T.view input.old store.old).left ≡ Some all → P.expects pass.old all → SpoiltIf result (HasLess (T.view output.old store.old) (P.most pass.old)) }
-    ensures last { (all : List Symbol) → (T.view input.old store.old).left ≡ Some all → P.expects pass.old all → SpoiltAs result (NamesLastRead (T.view input.old store.old) (T.view input.new store.new)) }
-    ensures bounded { (all : List Symbol) → (T.view input.old store.old).left ≡ Some all → P.expects pass.old all → OnOk result ((T.view output.new store.new).count ≤ P.most pass.old) }
+    ensures spoilt { (all : List Symbol) → (T.view input.old store.old).left ≡ Some all → P.expects pass.old all
+        → SpoiltIf result (HasLess (T.view output.old store.old) (P.most pass.old)) }
+    ensures last { (all : List Symbol) → (T.view input.old store.old).left ≡ Some all → P.expects pass.old all
+        → SpoiltAs result (NamesLastRead (T.view input.old store.old) (T.view input.new store.new)) }
+    ensures bounded { (all : List Symbol) → (T.view input.old store.old).left ≡ Some all → P.expects pass.old all
+        → OnOk result ((T.view output.new store.new).count ≤ P.most pass.old) }
     ensures limit { (tables_model tables.new).limit ≡ (tables_model tables.old).limit }
     ensures most { P.most pass.new ≡ P.most pass.old }
 {

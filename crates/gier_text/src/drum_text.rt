@@ -1,10 +1,12 @@
 // A text on a drum: two words a symbol, and twenty symbols a track. Each track is written once and read once.
-ghost use Rattle.std.specs.Prelude.{◌≡◌, ◌<◌, ◌≤◌, ◌+◌, ◌/◌, ◌^◌, ◌*◌, ◌-◌, ◌%◌, ℕ, List, true, false, Some, None, length, All, OnOk, OnErr, IfErr, IfOk, slice_index, slice_set};
+ghost use Rattle.std.specs.Prelude.{◌≡◌, ◌<◌, ◌≤◌, ◌+◌, ◌/◌, ◌^◌, ◌*◌, ◌-◌, ◌%◌, ℕ, List, true, false, Some, None, length, All};
+ghost use Rattle.std.specs.Prelude.{OnOk, OnErr, IfErr, IfOk, slice_index, slice_set};
 ghost use Rattle.gier_word.specs.Cause.{HasCause};
 ghost use Rattle.gier_drum.specs.Drum.{SetsTrack};
 ghost use Rattle.gier_symbol.specs.Symbols.{IsSymbol, symbol_of_code};
 ghost use Rattle.gier_text.specs.declared.text.Way.TheVariants.{Forward, Backward};
-ghost use Rattle.gier_text.specs.SymbolsOnTracks.{symbols_of, left_in, all_symbols, tracks_for, track_words, symbol_in, buffered_only, IsNext};
+ghost use Rattle.gier_text.specs.SymbolsOnTracks.{symbols_of, left_in, all_symbols, tracks_for, track_words, symbol_in};
+ghost use Rattle.gier_text.specs.SymbolsOnTracks.{buffered_only, IsNext};
 ghost use Rattle.gier_text.specs.Log.{log_of, new_read, last_write, LogsAll};
 ghost use Rattle.gier_text.specs.View.{View};
 
@@ -129,7 +131,9 @@ impl<D: Drum> Text for DrumText<D> {
 
     ghost runs = { λ t. Prim.omega arith };
 
-    ghost own = { λ t old new same. own_view (D.tracks old) (D.tracks new) t.first t.loaded t.buffer t.count t.capacity t.rewound t.way t.unread (log_of t.fresh t.rewound t.first t.count t.way t.loaded) t.limited same };
+    ghost own = { λ t old new same. own_view (D.tracks old)
+        (D.tracks new) t.first t.loaded t.buffer t.count t.capacity t.rewound t.way t.unread
+        (log_of t.fresh t.rewound t.first t.count t.way t.loaded) t.limited same };
 
     fn write_next(&mut self, store: &mut D, s: Symbol) -> Result<(), TextStop> {
         if self.count == self.capacity {
@@ -209,7 +213,8 @@ fn put(buffer: &mut [u64; 40], at: u32, s: Symbol)
 fn get(buffer: &[u64; 40], at: u32) -> Result<Symbol, u64>
     requires { at < 20 }
     ensures symbol { IfOk result (λ s. IsSymbol s × (symbol_in buffer.now (2 * at) ≡ Some s)) }
-    ensures word { IfErr result (λ word. (symbol_in buffer.now (2 * at) ≡ None) × ((value : ℕ) × (symbol_of_code word value ≡ None))) }
+    ensures word { IfErr result (λ word. (symbol_in buffer.now (2 * at) ≡ None)
+        × ((value : ℕ) × (symbol_of_code word value ≡ None))) }
 {
     let place = 2 * at as usize;
     let head = buffer[place];
@@ -245,7 +250,8 @@ fn load<D: Drum>(
     requires in_room { first + track < D.room store.old }
     requires small { All (λ word. word < 2 ^ 40) buffer.old }
     ensures loaded { OnOk result (loaded.new ≡ track + 1) }
-    ensures words { OnOk result ((all : List (List ℕ)) → D.tracks store.old ≡ Some all → buffer.new ≡ track_words all first loaded.old buffer.old track) }
+    ensures words { OnOk result ((all : List (List ℕ)) → D.tracks store.old ≡ Some all
+        → buffer.new ≡ track_words all first loaded.old buffer.old track) }
     ensures err { OnErr result ((loaded.new ≡ loaded.old) × (buffer.new ≡ buffer.old)) }
     ensures small { All (λ word. word < 2 ^ 40) buffer.new }
     ensures sized { length buffer.new ≡ 40 }
@@ -281,7 +287,8 @@ fn flush<D: Drum>(
     requires fits { 0 < count % 20 → first + count / 20 < 2 ^ 32 }
     requires in_room { first + (count + 19) / 20 ≤ D.room store.old }
     requires small { All (λ word. word < 2 ^ 40) buffer.now }
-    ensures begun { OnOk result (0 < buffered_only fresh count → SetsTrack (D.tracks store.old) (first + count / 20) buffer.now (D.tracks store.new)) }
+    ensures begun { OnOk result (0 < buffered_only fresh count
+        → SetsTrack (D.tracks store.old) (first + count / 20) buffer.now (D.tracks store.new)) }
     ensures full { OnOk result (buffered_only fresh count ≡ 0 → D.tracks store.new ≡ D.tracks store.old) }
     ensures err { OnErr result (D.tracks store.new ≡ D.tracks store.old) }
     ensures room { D.room store.new ≡ D.room store.old }

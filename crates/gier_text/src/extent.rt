@@ -24,7 +24,8 @@ pub(crate) fn extent_at(extents: &Vec<Extent>, list: u8) -> Extent
 
 pub(crate) fn set_count(extents: &mut Vec<Extent>, list: u8, count: u64)
     requires { list < length extents.old.items }
-    ensures set { extents.new.items ≡ slice_set extents.old.items list (record (nth_extent extents.old.items list) { count = count }) }
+    ensures set { extents.new.items
+        ≡ slice_set extents.old.items list (record (nth_extent extents.old.items list) { count = count }) }
     ensures capacity { vec_capacity extents.new ≡ vec_capacity extents.old }
 {
     let mut extent = extent_at(extents, list);
@@ -47,7 +48,8 @@ pub(crate) fn copy(words: &mut Region, place: u64, entry: &[u64])
     requires small { All (λ word. word < 2 ^ 40) entry.now }
     ensures size { length words.new.words ≡ length words.old.words }
     ensures written { (k : ℕ) → k < length entry.now → slice_index words.new.words (place + k) ≡ slice_index entry.now k }
-    ensures kept { (k : ℕ) → (k < place) ⊎ (place + length entry.now ≤ k) → slice_index words.new.words k ≡ slice_index words.old.words k }
+    ensures kept { (k : ℕ) → (k < place) ⊎ (place + length entry.now ≤ k)
+        → slice_index words.new.words k ≡ slice_index words.old.words k }
 {
     let mut at = place;
     for word in entry {

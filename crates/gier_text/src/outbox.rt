@@ -22,8 +22,10 @@ pub fn put(tables: &mut Tables, list: u8, s: Symbol)
     requires width { (list_at (tables_model tables.old).lists list).width ≡ 2 }
     requires room { (list_at (tables_model tables.old).lists list).count < (list_at (tables_model tables.old).lists list).capacity }
     requires symbol { IsSymbol s }
-    ensures put { tables_model tables.new ≡ with_at (tables_model tables.old) list (with_entry (list_at (tables_model tables.old).lists list) (code_of s)) }
-    ensures waits { outbox_symbols (list_at (tables_model tables.new).lists list) ≡ outbox_symbols (list_at (tables_model tables.old).lists list) ++ s ∷ [] }
+    ensures put { tables_model tables.new
+        ≡ with_at (tables_model tables.old) list (with_entry (list_at (tables_model tables.old).lists list) (code_of s)) }
+    ensures waits { outbox_symbols (list_at (tables_model tables.new).lists list)
+        ≡ outbox_symbols (list_at (tables_model tables.old).lists list) ++ s ∷ [] }
 {
     tables.push(list, &s.code());
 }
@@ -39,8 +41,10 @@ pub fn flush<T: Text>(
     requires width { (list_at (tables_model tables.old).lists list).width ≡ 2 }
     requires writing { (T.view out.old store.old).rewound ≡ false }
     requires placed { T.end_track out.old ≤ T.room store.old }
-    ensures written { OnOk result (WritesAll (T.view out.old store.old) (outbox_symbols (list_at (tables_model tables.old).lists list)) (T.view out.new store.new)) }
-    ensures emptied { OnOk result (tables_model tables.new ≡ with_at (tables_model tables.old) list (cut_to (list_at (tables_model tables.old).lists list) 0)) }
+    ensures written { OnOk result (WritesAll (T.view out.old store.old)
+        (outbox_symbols (list_at (tables_model tables.old).lists list)) (T.view out.new store.new)) }
+    ensures emptied { OnOk result (tables_model tables.new
+        ≡ with_at (tables_model tables.old) list (cut_to (list_at (tables_model tables.old).lists list) 0)) }
     ensures limit { (tables_model tables.new).limit ≡ (tables_model tables.old).limit }
     ensures logged { Logged (T.view out.old store.old) (T.view out.new store.new) (T.journal store.old) (T.journal store.new) }
     ensures place { IsPlacedAs T.first_track T.end_track out.old out.new }
@@ -51,7 +55,9 @@ pub fn flush<T: Text>(
     ensures failed { IsErrOf result Drum → HasRisen (T.faults store.old) (T.faults store.new) }
     ensures memory { IsErrOf result Memory → IsTrue T.grows }
     ensures full { IsErrOf result Full → IsFull (T.view out.new store.new) }
-    ensures roomy { IsErrOf result Full → HasLess (T.view out.old store.old) ((T.view out.old store.old).count + length (outbox_symbols (list_at (tables_model tables.old).lists list))) }
+    ensures roomy { IsErrOf result Full
+        → HasLess (T.view out.old store.old)
+        ((T.view out.old store.old).count + length (outbox_symbols (list_at (tables_model tables.old).lists list))) }
     ensures sound { SpoiltIf result ⊥ }
 {
     for at in 0..tables.len(list) {

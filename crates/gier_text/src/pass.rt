@@ -63,7 +63,8 @@ pub trait Pass {
         requires writing { (T.view out.old store.old).rewound ≡ false }
         requires placed { T.end_track out.old ≤ T.room store.old }
         ensures ok { OnOk result ((ws : List Symbol) × WritesAll (T.view out.old store.old) ws (T.view out.new store.new)
-            × ((read written : List Symbol) → stands self.old tables.old read written → stands self.new tables.new (read ++ Self.In.symbol_of s ∷ []) (written ++ ws))) }
+            × ((read written : List Symbol) → stands self.old tables.old read written
+            → stands self.new tables.new (read ++ Self.In.symbol_of s ∷ []) (written ++ ws))) }
         ensures logged { Logged (T.view out.old store.old) (T.view out.new store.new) (T.journal store.old) (T.journal store.new) }
         ensures place { IsPlacedAs T.first_track T.end_track out.old out.new }
         ensures room { T.room store.new ≡ T.room store.old }
@@ -73,9 +74,12 @@ pub trait Pass {
         ensures failed { IsErrOf result Drum → HasRisen (T.faults store.old) (T.faults store.new) }
         ensures memory { IsErrOf result Memory → IsTrue T.grows }
         ensures full { IsErrOf result Full → IsFull (T.view out.new store.new) }
-        ensures sound { Expected (stands self.old tables.old) (expects self.old) (T.view out.old store.old) (Self.In.symbol_of s ∷ []) → SpoiltIf result ⊥ }
-        ensures roomy { Expected (stands self.old tables.old) (expects self.old) (T.view out.old store.old) (Self.In.symbol_of s ∷ []) → IsErrOf result Full → HasLess (T.view out.old store.old) (most self.old) }
-        ensures bounded { Expected (stands self.old tables.old) (expects self.old) (T.view out.old store.old) (Self.In.symbol_of s ∷ []) → OnOk result ((T.view out.new store.new).count ≤ most self.old) }
+        ensures sound { Expected (stands self.old tables.old) (expects self.old) (T.view out.old store.old)
+            (Self.In.symbol_of s ∷ []) → SpoiltIf result ⊥ }
+        ensures roomy { Expected (stands self.old tables.old) (expects self.old) (T.view out.old store.old)
+            (Self.In.symbol_of s ∷ []) → IsErrOf result Full → HasLess (T.view out.old store.old) (most self.old) }
+        ensures bounded { Expected (stands self.old tables.old) (expects self.old) (T.view out.old store.old)
+            (Self.In.symbol_of s ∷ []) → OnOk result ((T.view out.new store.new).count ≤ most self.old) }
         ensures limit { (tables_model tables.new).limit ≡ (tables_model tables.old).limit }
         ensures still_most { most self.new ≡ most self.old }
         ensures still_expects { (list : List Symbol) → expects self.old list → expects self.new list };
@@ -91,7 +95,8 @@ pub trait Pass {
         requires writing { (T.view out.old store.old).rewound ≡ false }
         requires placed { T.end_track out.old ≤ T.room store.old }
         ensures ok { OnOk result ((ws : List Symbol) × WritesAll (T.view out.old store.old) ws (T.view out.new store.new)
-            × ((read written : List Symbol) → stands self.old tables.old read written → relates self.new tables.new read (written ++ ws))) }
+            × ((read written : List Symbol) → stands self.old tables.old read written
+            → relates self.new tables.new read (written ++ ws))) }
         ensures logged { Logged (T.view out.old store.old) (T.view out.new store.new) (T.journal store.old) (T.journal store.new) }
         ensures place { IsPlacedAs T.first_track T.end_track out.old out.new }
         ensures room { T.room store.new ≡ T.room store.old }
@@ -101,9 +106,12 @@ pub trait Pass {
         ensures failed { IsErrOf result Drum → HasRisen (T.faults store.old) (T.faults store.new) }
         ensures memory { IsErrOf result Memory → IsTrue T.grows }
         ensures full { IsErrOf result Full → IsFull (T.view out.new store.new) }
-        ensures sound { ExpectedWhole (stands self.old tables.old) (expects self.old) (T.view out.old store.old) → SpoiltIf result ⊥ }
-        ensures roomy { ExpectedWhole (stands self.old tables.old) (expects self.old) (T.view out.old store.old) → IsErrOf result Full → HasLess (T.view out.old store.old) (most self.old) }
-        ensures bounded { ExpectedWhole (stands self.old tables.old) (expects self.old) (T.view out.old store.old) → OnOk result ((T.view out.new store.new).count ≤ most self.old) }
+        ensures sound { ExpectedWhole (stands self.old tables.old) (expects self.old) (T.view out.old store.old)
+            → SpoiltIf result ⊥ }
+        ensures roomy { ExpectedWhole (stands self.old tables.old) (expects self.old) (T.view out.old store.old)
+            → IsErrOf result Full → HasLess (T.view out.old store.old) (most self.old) }
+        ensures bounded { ExpectedWhole (stands self.old tables.old) (expects self.old) (T.view out.old store.old)
+            → OnOk result ((T.view out.new store.new).count ≤ most self.old) }
         ensures limit { (tables_model tables.new).limit ≡ (tables_model tables.old).limit }
         ensures still_most { most self.new ≡ most self.old };
 

@@ -92,7 +92,8 @@ impl Tables {
         requires room { (list_at (tables_model self.old).lists list).count < (list_at (tables_model self.old).lists list).capacity }
         requires width { length entry.now ≡ (list_at (tables_model self.old).lists list).width }
         requires small { All (λ word. word < 2 ^ 40) entry.now }
-        ensures { tables_model self.new ≡ with_at (tables_model self.old) list (with_entry (list_at (tables_model self.old).lists list) entry.now) }
+        ensures { tables_model self.new
+            ≡ with_at (tables_model self.old) list (with_entry (list_at (tables_model self.old).lists list) entry.now) }
     {
         let extent = extent_at(&self.lists, list);
         copy(&mut self.words, word_place(extent, extent.count, 0), entry);
@@ -111,7 +112,8 @@ impl Tables {
     pub fn cut(&mut self, list: u8, len: u32)
         requires open { list < length (tables_model self.old).lists }
         requires within { len ≤ (list_at (tables_model self.old).lists list).count }
-        ensures { tables_model self.new ≡ with_at (tables_model self.old) list (cut_to (list_at (tables_model self.old).lists list) len) }
+        ensures { tables_model self.new
+            ≡ with_at (tables_model self.old) list (cut_to (list_at (tables_model self.old).lists list) len) }
     {
         set_count(&mut self.lists, list, u64::from(len));
     }
@@ -135,7 +137,8 @@ impl Tables {
         requires entry { at < (list_at (tables_model self.old).lists list).count }
         requires part { part < (list_at (tables_model self.old).lists list).width }
         requires small { word < 2 ^ 40 }
-        ensures { tables_model self.new ≡ with_at (tables_model self.old) list (with_word (list_at (tables_model self.old).lists list) at part word) }
+        ensures { tables_model self.new
+            ≡ with_at (tables_model self.old) list (with_word (list_at (tables_model self.old).lists list) at part word) }
     {
         let extent = extent_at(&self.lists, list);
         self.words
@@ -188,7 +191,8 @@ impl Tables {
 // The number behind the last fault that has no later position.
 fn place_behind(faults: &Vec<Fault>, position: u32) -> usize
     ensures within { result ≤ length faults.now.items }
-    ensures later { (k : ℕ) (d : Fault) → result ≤ k → k < length faults.now.items → position < (slice_index_or faults.now.items k d).position }
+    ensures later { (k : ℕ) (d : Fault) → result ≤ k → k < length faults.now.items
+        → position < (slice_index_or faults.now.items k d).position }
     ensures last { (d : Fault) → 0 < result → (slice_index_or faults.now.items (result - 1) d).position ≤ position }
 {
     let mut at = faults.len();

@@ -6,7 +6,8 @@ ghost use Rattle.gier_symbol.specs.Symbols.{IsSymbol};
 ghost use Rattle.gier_text.specs.declared.text.TextStop.TheVariants.{Failed, Full, Memory};
 ghost use Rattle.gier_text.specs.Stops.{NotSpoilt, SpoiltOnly, IsSymbolOrEnd};
 ghost use Rattle.gier_text.specs.Log.{Logged};
-ghost use Rattle.gier_text.specs.View.{View, IsFull, Writes, Rewinds, Reads, KeepsOthers, KeepsAll, IsPlacedAs, KeepsTracks, SameTracks};
+ghost use Rattle.gier_text.specs.View.{View, IsFull, Writes, Rewinds, Reads, KeepsOthers, KeepsAll, IsPlacedAs, KeepsTracks};
+ghost use Rattle.gier_text.specs.View.{SameTracks};
 
 use gier_symbol::Symbol;
 use gier_word::Odd;
@@ -116,5 +117,6 @@ pub trait Text {
     ghost runs: { (t : Self) → first_track t ≤ end_track t };
 
     /// What a text is depends on the text and its own tracks alone.
-    ghost own: { (t : Self) (old new : Self.Store) → SameTracks (first_track t) (end_track t) (tracks old) (tracks new) → view t new ≡ view t old };
+    ghost own: { (t : Self) (old new : Self.Store) → SameTracks (first_track t) (end_track t) (tracks old) (tracks new)
+        → view t new ≡ view t old };
 }

@@ -1,23 +1,54 @@
 -- The code of expressions, addresses, label values and calls.
-use Rattle.std.specs.Prelude.{ℕ, zero, suc, ◌+◌, ◌-◌, ◌*◌, ◌^◌, Bool, true, false, nat_lt, List, [], ◌∷◌, length, map, drop, Option, None, Some}
+use Rattle.std.specs.Prelude.{ℕ, zero, suc, ◌+◌, ◌-◌, ◌*◌, ◌^◌, Bool, true, false, nat_lt, List, [], ◌∷◌, length, map, drop}
+use Rattle.std.specs.Prelude.{Option, None, Some}
 use Rattle.gier_order.specs.declared.operation.Operation.{Operation}
-use Rattle.gier_order.specs.declared.operation.Operation.TheVariants.{Take as OTake, Short as OShort, Long as OLong, Keep as OKeep, Addr as OAddr, Fetch as OFetch, Add as OAdd, Sub as OSub, Mul as OMul, Div as ODiv, Pow as OPow, Neg as ONeg, Lt as OLt, Le as OLe, Eq as OEq, Ge as OGe, Gt as OGt, Ne as ONe, Not as ONot, And as OAnd, Or as OOr, Impl as OImpl, Equiv as OEquiv, Jump as OJump, False as OFalse, Index as OIndex, Call as OCall, Formal as OFormal, Thunk as OThunk, Value as OValue, Place as OPlace, NameL as ONameL, Pass as OPass, Back as OBack, Give as OGive, Lib as OLib, Switch as OSwitch, SwForm as OSwForm, Lab as OLab, Base as OBase, Kinds as OKinds, Agree as OAgree, ByVal as OByVal, CallF as OCallF}
+use Rattle.gier_order.specs.declared.operation.Operation.TheVariants.{Take as OTake, Short as OShort, Long as OLong}
+use Rattle.gier_order.specs.declared.operation.Operation.TheVariants.{Keep as OKeep, Addr as OAddr, Fetch as OFetch, Add as OAdd}
+use Rattle.gier_order.specs.declared.operation.Operation.TheVariants.{Sub as OSub, Mul as OMul, Div as ODiv, Pow as OPow}
+use Rattle.gier_order.specs.declared.operation.Operation.TheVariants.{Neg as ONeg, Lt as OLt, Le as OLe, Eq as OEq, Ge as OGe}
+use Rattle.gier_order.specs.declared.operation.Operation.TheVariants.{Gt as OGt, Ne as ONe, Not as ONot, And as OAnd, Or as OOr}
+use Rattle.gier_order.specs.declared.operation.Operation.TheVariants.{Impl as OImpl, Equiv as OEquiv, Jump as OJump}
+use Rattle.gier_order.specs.declared.operation.Operation.TheVariants.{False as OFalse, Index as OIndex, Call as OCall}
+use Rattle.gier_order.specs.declared.operation.Operation.TheVariants.{Formal as OFormal, Thunk as OThunk, Value as OValue}
+use Rattle.gier_order.specs.declared.operation.Operation.TheVariants.{Place as OPlace, NameL as ONameL, Pass as OPass}
+use Rattle.gier_order.specs.declared.operation.Operation.TheVariants.{Back as OBack, Give as OGive, Lib as OLib}
+use Rattle.gier_order.specs.declared.operation.Operation.TheVariants.{Switch as OSwitch, SwForm as OSwForm, Lab as OLab}
+use Rattle.gier_order.specs.declared.operation.Operation.TheVariants.{Base as OBase, Kinds as OKinds, Agree as OAgree}
+use Rattle.gier_order.specs.declared.operation.Operation.TheVariants.{ByVal as OByVal, CallF as OCallF}
 use Rattle.gier_agree.specs.declared.kind.Kind.{Kind as Fitting}
-use Rattle.gier_agree.specs.declared.kind.Kind.TheVariants.{IntegerByValue as FIntegerValue, BooleanByValue as FBooleanValue, Integer as FInteger, Boolean as FBoolean, Label as FLabel, IntegerArray as FIntegerArray, BooleanArray as FBooleanArray, Switch as FSwitch, String as FString, Procedure as FProcedure, IntegerProcedure as FIntegerProcedure, BooleanProcedure as FBooleanProcedure}
+use Rattle.gier_agree.specs.declared.kind.Kind.TheVariants.{IntegerByValue as FIntegerValue, BooleanByValue as FBooleanValue}
+use Rattle.gier_agree.specs.declared.kind.Kind.TheVariants.{Integer as FInteger, Boolean as FBoolean, Label as FLabel}
+use Rattle.gier_agree.specs.declared.kind.Kind.TheVariants.{IntegerArray as FIntegerArray, BooleanArray as FBooleanArray}
+use Rattle.gier_agree.specs.declared.kind.Kind.TheVariants.{Switch as FSwitch, String as FString, Procedure as FProcedure}
+use Rattle.gier_agree.specs.declared.kind.Kind.TheVariants.{IntegerProcedure as FIntegerProcedure}
+use Rattle.gier_agree.specs.declared.kind.Kind.TheVariants.{BooleanProcedure as FBooleanProcedure}
 use Rattle.gier_agree.specs.Kinds.{number_of as fitting_number}
 use Rattle.gier_agree.specs.Packed.{kinds_word}
 use Rattle.gier_symbol.specs.declared.symbol.Symbol.{Symbol}
 use Rattle.gier_tree.specs.declared.kind.Kind.{Kind}
-use Rattle.gier_tree.specs.declared.kind.Kind.TheVariants.{IntegerVariable, BooleanVariable, IntegerArray, BooleanArray, Label, Switch, Procedure, IntegerProcedure, BooleanProcedure, IntegerValue, BooleanValue, IntegerFormal, BooleanFormal, IntegerArrayFormal, BooleanArrayFormal, LabelFormal, SwitchFormal, StringFormal, ProcedureFormal, IntegerProcedureFormal, BooleanProcedureFormal, OutText}
+use Rattle.gier_tree.specs.declared.kind.Kind.TheVariants.{IntegerVariable, BooleanVariable, IntegerArray, BooleanArray, Label}
+use Rattle.gier_tree.specs.declared.kind.Kind.TheVariants.{Switch, Procedure, IntegerProcedure, BooleanProcedure, IntegerValue}
+use Rattle.gier_tree.specs.declared.kind.Kind.TheVariants.{BooleanValue, IntegerFormal, BooleanFormal, IntegerArrayFormal}
+use Rattle.gier_tree.specs.declared.kind.Kind.TheVariants.{BooleanArrayFormal, LabelFormal, SwitchFormal, StringFormal}
+use Rattle.gier_tree.specs.declared.kind.Kind.TheVariants.{ProcedureFormal, IntegerProcedureFormal, BooleanProcedureFormal}
+use Rattle.gier_tree.specs.declared.kind.Kind.TheVariants.{OutText}
 use Rattle.gier_tree.specs.Kinds.{kind_number}
 use Rattle.gier_tree.specs.Described.{Scopes}
 use Rattle.gier_tree.specs.Lines.{first_expr}
 use Rattle.gier_tree.specs.Need.{need_expr}
-use Rattle.gier_tree.specs.Orders.{State, Following, Code, order, with_label, room_order, data_word, define, needs, new, no_code, data_words, jumped_over}
+use Rattle.gier_tree.specs.Orders.{State, Following, Code, order, with_label, room_order, data_word, define, needs, new, no_code}
+use Rattle.gier_tree.specs.Orders.{data_words, jumped_over}
 use Rattle.gier_tree.specs.Places.{Placed, Places}
 use Rattle.gier_tree.specs.Room.{call_header}
 use Rattle.gier_tree.specs.Written.{name_alone}
-use Rattle.gier_tree.specs.Trees.{Name, Byte, Adding, Add, Subtract, Multiplying, Multiply, Divide, Comparing, LessThan, AtMost, EqualTo, AtLeast, MoreThan, Unequal, Expr, OneSimple, IfExpr, Simple, OneImplication, Equivalent, Implication, OneDisjunction, Implies, Disjunction, OneConjunction, Either, Conjunction, OneNegation, Both, Negation, OneRelation, Negated, Relation, OneArithmetic, Compared, Arithmetic, OneTerm, Signed, Summed, Term, OneFactor, Multiplied, Factor, OnePrimary, Raised, Primary, Numeral, Logical, Bracketed, OneCall, OneElement, Call, Alone, WithActuals, Subscripted, Actual, OneExpr, AString, Actuals, NoActuals, MoreActuals, Exprs, NoExprs, MoreExprs}
+use Rattle.gier_tree.specs.Trees.{Name, Byte, Adding, Add, Subtract, Multiplying, Multiply, Divide, Comparing, LessThan, AtMost}
+use Rattle.gier_tree.specs.Trees.{EqualTo, AtLeast, MoreThan, Unequal, Expr, OneSimple, IfExpr, Simple, OneImplication}
+use Rattle.gier_tree.specs.Trees.{Equivalent, Implication, OneDisjunction, Implies, Disjunction, OneConjunction, Either}
+use Rattle.gier_tree.specs.Trees.{Conjunction, OneNegation, Both, Negation, OneRelation, Negated, Relation, OneArithmetic}
+use Rattle.gier_tree.specs.Trees.{Compared, Arithmetic, OneTerm, Signed, Summed, Term, OneFactor, Multiplied, Factor, OnePrimary}
+use Rattle.gier_tree.specs.Trees.{Raised, Primary, Numeral, Logical, Bracketed, OneCall, OneElement, Call, Alone, WithActuals}
+use Rattle.gier_tree.specs.Trees.{Subscripted, Actual, OneExpr, AString, Actuals, NoActuals, MoreActuals, Exprs, NoExprs}
+use Rattle.gier_tree.specs.Trees.{MoreExprs}
 
 abbrev pub scopes_of : Places → Scopes
 scopes_of p x = (p x).what
@@ -41,7 +72,8 @@ comparing_operation Unequal = ONe
 
 -- two operands: the first one waits in a working place while the second is evaluated
 abbrev pub both : Operation → (line : ℕ) → Code → Code → Code
-both op line a b level w st go = a level w st (λ s. order OKeep 0 w line s (λ s1. b level (w + 1) s1 (λ s2. order op 0 w line s2 go)))
+both op line a b level w st go =
+    a level w st (λ s. order OKeep 0 w line s (λ s1. b level (w + 1) s1 (λ s2. order op 0 w line s2 go)))
 
 abbrev pub then_order : Operation → (line : ℕ) → Code → Code
 then_order op line a level w st go = a level w st (λ s. order op 0 0 line s go)
@@ -62,7 +94,8 @@ logical_number false = 0
 -- a conditional expression, also one that gives a label
 abbrev pub choice : (line : ℕ) → (test so otherwise : Code) → Code
 choice line test so otherwise level w st go =
-    test level w st (λ s. new s (λ x s1. with_label OFalse 0 x line s1 (λ s2. so level w s2 (λ s3. new s3 (λ y s4. with_label OJump 0 y line s4 (λ s5. define x s5 (λ s6. otherwise level w s6 (λ s7. define y s7 go))))))))
+    test level w st (λ s. new s (λ x s1. with_label OFalse 0 x line s1 (λ s2. so level w s2 (λ s3. new s3 (λ y s4.
+    with_label OJump 0 y line s4 (λ s5. define x s5 (λ s6. otherwise level w s6 (λ s7. define y s7 go))))))))
 
 -- the address of a variable, a formal, or a function's value
 abbrev pub address_of : Placed → (line : ℕ) → State → Following → List Symbol
@@ -95,10 +128,13 @@ array_of at line st go = by_kind at.what.kind
 -- subscripts, each in its working place
 abbrev pub subscripts_code : (line : ℕ) → List Code → Code
 subscripts_code line [] level w st go = go st
-subscripts_code line (c ∷ cs) level w st go = c level w st (λ s. order OKeep 0 w line s (λ s1. subscripts_code line cs level (w + 1) s1 go))
+subscripts_code line (c ∷ cs) level w st go =
+    c level w st (λ s. order OKeep 0 w line s (λ s1. subscripts_code line cs level (w + 1) s1 go))
 
 abbrev pub element_code : Placed → (line : ℕ) → List Code → Code
-element_code at line cs level w st go = array_of at line st (λ s. order OKeep 0 w line s (λ s1. subscripts_code line cs level (w + 1) s1 (λ s2. order OIndex (length cs) w line s2 go)))
+element_code at line cs level w st go =
+    array_of at line st (λ s. order OKeep 0 w line s (λ s1. subscripts_code line cs level (w + 1) s1 (λ s2.
+    order OIndex (length cs) w line s2 go)))
 
 -- a label, and a switch designator
 abbrev pub label_code : Placed → (line : ℕ) → Code
@@ -117,13 +153,15 @@ switch_code at line subscript level w st go = subscript level w st (λ s. by_kin
 
 -- an evaluation, which stands behind a jump; its working places are behind its header
 abbrev pub evaluation : (kind need line : ℕ) → Code → State → Following → List Symbol
-evaluation kind need line body st go = room_order OThunk kind call_header line st (λ s. body 0 call_header s (λ s1. needs need s1 go))
+evaluation kind need line body st go =
+    room_order OThunk kind call_header line st (λ s. body 0 call_header s (λ s1. needs need s1 go))
 
 -- an actual by name: the evaluation, and its address and the activation in two places
 abbrev pub by_name : (kind need line : ℕ) → Code → (v : ℕ) → State → Following → List Symbol
 by_name kind need line body v st go =
     jumped_over line st (λ start s. evaluation kind need line body s)
-    (λ start s. with_label OShort 0 start line s (λ s1. order OKeep 0 v line s1 (λ s2. order OBase 0 0 line s2 (λ s3. order OKeep 0 (v + 1) line s3 go))))
+    (λ start s. with_label OShort 0 start line s (λ s1. order OKeep 0 v line s1 (λ s2. order OBase 0 0 line s2 (λ s3.
+    order OKeep 0 (v + 1) line s3 go))))
 
 -- the words of a string: the number of its bytes, and the bytes, five to a word, the first in the highest bits
 abbrev pub five_bytes : (n : ℕ) → List ℕ → ℕ
@@ -140,7 +178,8 @@ abbrev pub string_words : List ℕ → List ℕ
 string_words bytes = length bytes ∷ bytes_words (length bytes) bytes
 
 abbrev pub string_code : List ℕ → (line : ℕ) → State → Following → List Symbol
-string_code bytes line st go = jumped_over line st (λ start s. data_words (string_words bytes) line s) (λ start s. with_label OShort 0 start line s go)
+string_code bytes line st go =
+    jumped_over line st (λ start s. data_words (string_words bytes) line s) (λ start s. with_label OShort 0 start line s go)
 
 -- the kinds of formals and actuals at a call of a formal procedure, ten to a word, four bits each, the first in the highest bits
 abbrev pub packed_words : (fuel : ℕ) → List Fitting → List ℕ
@@ -239,8 +278,9 @@ abbrev mutual
   primary_fitting p (OneCall (WithActuals x l a more m)) = part_fitting (p x.number).what.kind
   primary_fitting p (OneElement (Subscripted x l e es m)) = part_fitting (p x.number).what.kind
 
--- what code needs to know of an actual: its code as a value, as a label, and as an address where it is an element; the identifier that
--- it is alone; the bytes of a string; what it is at a call of a formal procedure; the words that its evaluation needs; its first line
+-- what code needs to know of an actual: its code as a value, as a label, and as an address where it is an element; the
+-- identifier that it is alone; the bytes of a string; what it is at a call of a formal procedure; the words that its evaluation
+-- needs; its first line
 pub record Part : Type 0 where
   pub value : Code
   pub label : Code
@@ -263,8 +303,10 @@ name_evaluation at value need line v st go = by_kind at.what.kind
     by_kind BooleanVariable = variable
     by_kind IntegerValue = variable
     by_kind BooleanValue = variable
-    by_kind IntegerFormal = by_name 3 need line (λ level w s k. order OPass at.level at.address line s (λ s1. order OBack 0 0 line s1 k)) v st go
-    by_kind BooleanFormal = by_name 3 need line (λ level w s k. order OPass at.level at.address line s (λ s1. order OBack 0 0 line s1 k)) v st go
+    by_kind IntegerFormal =
+        by_name 3 need line (λ level w s k. order OPass at.level at.address line s (λ s1. order OBack 0 0 line s1 k)) v st go
+    by_kind BooleanFormal =
+        by_name 3 need line (λ level w s k. order OPass at.level at.address line s (λ s1. order OBack 0 0 line s1 k)) v st go
     by_kind kind = by_name 0 need line (then_order OBack line value) v st go
 
 abbrev pub value_evaluation : Option Code → Option Placed → Part → (v : ℕ) → State → Following → List Symbol
@@ -278,14 +320,17 @@ declared_actual at line st go = by_count at.what.count
   where
     by_count : ℕ → List Symbol
     by_count zero = with_label OShort 0 at.address line st go
-    by_count (suc n) = jumped_over line st (λ start s k. with_label OKinds (suc n) at.address line s (λ s1. data_words (packed_kinds (map formal_fitting at.what.formals)) line s1 k)) (λ start s. with_label OShort 0 start line s go)
+    by_count (suc n) = jumped_over line st (λ start s k. with_label OKinds (suc n) at.address line s (λ s1.
+        data_words (packed_kinds (map formal_fitting at.what.formals)) line s1 k))
+        (λ start s. with_label OShort 0 start line s go)
 
 -- a switch or procedure as an actual
 abbrev pub entity_actual : Placed → (line v : ℕ) → State → Following → List Symbol
 entity_actual at line v st go = by_kind at.what.kind
   where
     formal : List Symbol
-    formal = order OTake at.level at.address line st (λ s. order OKeep 0 v line s (λ s1. order OTake at.level (suc at.address) line s1 (λ s2. order OKeep 0 (v + 1) line s2 go)))
+    formal = order OTake at.level at.address line st (λ s. order OKeep 0 v line s (λ s1.
+        order OTake at.level (suc at.address) line s1 (λ s2. order OKeep 0 (v + 1) line s2 go)))
 
     based : Following
     based s = order OKeep 0 v line s (λ s1. order OBase at.level 0 line s1 (λ s2. order OKeep 0 (v + 1) line s2 go))
@@ -314,8 +359,10 @@ actual_code BooleanValue level v a st go = a.value level v st (λ s. order OKeep
 actual_code IntegerFormal level v a st go = value_evaluation a.element a.name a v st go
 actual_code BooleanFormal level v a st go = value_evaluation a.element a.name a v st go
 actual_code LabelFormal level v a st go = by_name 2 a.need a.line (then_order OBack a.line a.label) v st go
-actual_code IntegerArrayFormal level v a st go = named_actual a.name (λ at. array_of at a.line st (λ s. order OKeep 0 v a.line s go)) (go st)
-actual_code BooleanArrayFormal level v a st go = named_actual a.name (λ at. array_of at a.line st (λ s. order OKeep 0 v a.line s go)) (go st)
+actual_code IntegerArrayFormal level v a st go =
+    named_actual a.name (λ at. array_of at a.line st (λ s. order OKeep 0 v a.line s go)) (go st)
+actual_code BooleanArrayFormal level v a st go =
+    named_actual a.name (λ at. array_of at a.line st (λ s. order OKeep 0 v a.line s go)) (go st)
 actual_code StringFormal level v a st go = string_actual a.string a.name a.line st (λ s. order OKeep 0 v a.line s go)
 actual_code kind level v a st go = named_actual a.name (λ at. entity_actual at a.line v st go) (go st)
 
@@ -342,12 +389,16 @@ fitting_kind FBooleanValue = BooleanFormal
 
 abbrev pub value_wanted : Placed → (i level v line : ℕ) → State → Following → List Symbol
 value_wanted at i level v line st go =
-    order OShort 0 i line st (λ s. order OByVal at.level at.address line s (λ s1. new s1 (λ x s2. with_label OFalse 0 x line s2 (λ s3. order OValue level v line s3 (λ s4. order OKeep 0 v line s4 (λ s5. define x s5 go))))))
+    order OShort 0 i line st (λ s. order OByVal at.level at.address line s (λ s1. new s1 (λ x s2.
+    with_label OFalse 0 x line s2 (λ s3. order OValue level v line s3 (λ s4. order OKeep 0 v line s4 (λ s5.
+    define x s5 go))))))
 
 abbrev pub values_wanted : Placed → (i level v line : ℕ) → List Fitting → State → Following → List Symbol
 values_wanted at i level v line [] st go = go st
-values_wanted at i level v line (FInteger ∷ kinds) st go = value_wanted at i level v line st (λ s. values_wanted at (suc i) level (v + 2) line kinds s go)
-values_wanted at i level v line (FBoolean ∷ kinds) st go = value_wanted at i level v line st (λ s. values_wanted at (suc i) level (v + 2) line kinds s go)
+values_wanted at i level v line (FInteger ∷ kinds) st go =
+    value_wanted at i level v line st (λ s. values_wanted at (suc i) level (v + 2) line kinds s go)
+values_wanted at i level v line (FBoolean ∷ kinds) st go =
+    value_wanted at i level v line st (λ s. values_wanted at (suc i) level (v + 2) line kinds s go)
 values_wanted at i level v line (kind ∷ kinds) st go = values_wanted at (suc i) level (v + 2) line kinds st go
 
 abbrev pub formal_call : Placed → (line : ℕ) → List Part → Code
@@ -355,11 +406,16 @@ formal_call at line [] level w st go = order OFormal at.level at.address line st
 formal_call at line (a ∷ more) level w st go =
     let parts = a ∷ more in
     let kinds = map (λ (q : Part). q.fitting) parts in
-    order OAgree at.level at.address line st (λ s. data_word (length parts) line s (λ s1. data_words (packed_kinds kinds) line s1 (λ s2. actuals_code (map fitting_kind kinds) level w parts s2
-    (λ s3. values_wanted at 1 level w line kinds s3 (λ s4. order OShort 0 w line s4 (λ s5. order OCallF at.level at.address line s5 go))))))
+    order OAgree at.level at.address line st
+    (λ s.
+    data_word (length parts) line s
+    (λ s1. data_words (packed_kinds kinds) line s1 (λ s2. actuals_code (map fitting_kind kinds) level w parts s2
+    (λ s3. values_wanted at 1 level w line kinds s3 (λ s4. order OShort 0 w line s4 (λ s5.
+    order OCallF at.level at.address line s5 go))))))
 
 abbrev pub declared_call : Placed → (line : ℕ) → List Part → Code
-declared_call at line parts level w st go = actuals_code at.what.formals level w parts st (λ s. order OShort 0 w line s (λ s1. with_label OCall at.level at.address line s1 go))
+declared_call at line parts level w st go = actuals_code at.what.formals level w parts st (λ s. order OShort 0 w line s (λ s1.
+    with_label OCall at.level at.address line s1 go))
 
 -- a standard procedure; its number is its place in their order
 abbrev pub library : Kind → (line : ℕ) → State → Following → List Symbol
@@ -408,7 +464,16 @@ actual_fitting None type = type
 actual_fitting (Some at) type = name_fitting at.what.kind
 
 abbrev pub string_part : List Byte → (line : ℕ) → Part
-string_part bs line = record { value = no_code; label = no_code; element = None; name = None; string = Some (map (λ (b : Byte). b.value) bs); fitting = FString; need = 0; line = line }
+string_part bs line = record {
+  value = no_code;
+  label = no_code;
+  element = None;
+  name = None;
+  string = Some (map (λ (b : Byte). b.value) bs);
+  fitting = FString;
+  need = 0;
+  line = line;
+}
 
 abbrev mutual
   pub code_expr : Places → Expr → Code
@@ -457,7 +522,8 @@ abbrev mutual
   code_primary p (Logical b l) = number_code true (logical_number b) l
   code_primary p (Bracketed l e m) = code_expr p e
   code_primary p (OneCall c) = code_call p c
-  code_primary p (OneElement (Subscripted x l e es m)) = then_order OFetch x.line (element_code (p x.number) x.line (code_expr p e ∷ code_exprs p es))
+  code_primary p (OneElement (Subscripted x l e es m)) =
+      then_order OFetch x.line (element_code (p x.number) x.line (code_expr p e ∷ code_exprs p es))
 
   pub code_call : Places → Call → Code
   code_call p (Alone x) = alone_code (p x.number) x.line
@@ -469,7 +535,9 @@ abbrev mutual
 
   -- the address of an element alone
   pub code_address : Places → Expr → Option Code
-  code_address p (OneSimple (OneImplication (OneDisjunction (OneConjunction (OneNegation (OneRelation (OneArithmetic (OneTerm (OneFactor (OnePrimary (OneElement (Subscripted x l e es m)))))))))))) = Some (element_code (p x.number) x.line (code_expr p e ∷ code_exprs p es))
+  code_address p (OneSimple (OneImplication (OneDisjunction (OneConjunction (OneNegation (OneRelation (OneArithmetic (OneTerm
+      (OneFactor (OnePrimary (OneElement (Subscripted x l e es m)))))))))))) =
+      Some (element_code (p x.number) x.line (code_expr p e ∷ code_exprs p es))
   code_address p e = None
 
   -- a label value
@@ -478,7 +546,8 @@ abbrev mutual
   code_label p (IfExpr l c m s n e) = choice l (code_expr p c) (code_simple_label p s) (code_label p e)
 
   pub code_simple_label : Places → Simple → Code
-  code_simple_label p (OneImplication (OneDisjunction (OneConjunction (OneNegation (OneRelation (OneArithmetic (OneTerm (OneFactor (OnePrimary q))))))))) = code_primary_label p q
+  code_simple_label p (OneImplication (OneDisjunction (OneConjunction (OneNegation (OneRelation (OneArithmetic (OneTerm (OneFactor
+      (OnePrimary q))))))))) = code_primary_label p q
   code_simple_label p s = no_code
 
   pub code_primary_label : Places → Primary → Code
@@ -490,7 +559,16 @@ abbrev mutual
   pub part_of : Places → Actual → Part
   part_of p (OneExpr e) =
       let name = placed_name p (name_alone e) in
-      record { value = code_expr p e; label = code_label p e; element = code_address p e; name = name; string = None; fitting = actual_fitting name (expr_fitting p e); need = need_expr (scopes_of p) e; line = first_expr e }
+      record {
+        value = code_expr p e;
+        label = code_label p e;
+        element = code_address p e;
+        name = name;
+        string = None;
+        fitting = actual_fitting name (expr_fitting p e);
+        need = need_expr (scopes_of p) e;
+        line = first_expr e;
+      }
   part_of p (AString l bs m) = string_part bs l
 
   pub parts_of : Places → Actuals → List Part

@@ -1,7 +1,11 @@
 -- The numbers of the constructs, as marks tell them.
 use Rattle.std.specs.Prelude.{ℕ}
 use Rattle.gier_tree.specs.declared.construct.Construct.{Construct}
-use Rattle.gier_tree.specs.declared.construct.Construct.TheVariants.{Program, Block, Compound, TypeDeclaration, ArraySegment, SwitchDeclaration, ProcedureDeclaration, ProcedureBody, ForStatement, ControlledStatement, ConditionalStatement, Actual, Subscript, Bound, SwitchElement, ForElement, GoTo, ConditionalExpression}
+use Rattle.gier_tree.specs.declared.construct.Construct.TheVariants.{Program, Block, Compound, TypeDeclaration, ArraySegment}
+use Rattle.gier_tree.specs.declared.construct.Construct.TheVariants.{SwitchDeclaration, ProcedureDeclaration, ProcedureBody}
+use Rattle.gier_tree.specs.declared.construct.Construct.TheVariants.{ForStatement, ControlledStatement, ConditionalStatement}
+use Rattle.gier_tree.specs.declared.construct.Construct.TheVariants.{Actual, Subscript, Bound, SwitchElement, ForElement, GoTo}
+use Rattle.gier_tree.specs.declared.construct.Construct.TheVariants.{ConditionalExpression}
 
 abbrev pub construct_number : Construct → ℕ
 construct_number Program = 1

@@ -1,6 +1,11 @@
 -- The identifiers that declarations, headings and labels declare, in the order of the text. Each function takes what follows.
 use Rattle.std.specs.Prelude.{List, [], ◌∷◌, ◌++◌, map}
-use Rattle.gier_tree.specs.Trees.{Name, Names, MkNames, Segment, MkSegment, NextSegment, FixedSegment, MkFixed, NextFixed, Heading, MkHeading, Formals, NoFormals, FormalList, LabelPlace, Declaration, DeclareOwn, DeclareOwnArrays, Group, MkBlock, MkCompound, Statements, NoStatements, MoreStatements, Statement, OneUnconditional, OneConditional, OneLoop, Unconditional, MkUnconditional, Basic, OneGroup, Assign, Jump, CallStatement, Dummy, Conditional, IfThen, IfElse, IfLoop, Loop, MkLoop, Program, MkProgram}
+use Rattle.gier_tree.specs.Trees.{Name, Names, MkNames, Segment, MkSegment, NextSegment, FixedSegment, MkFixed, NextFixed}
+use Rattle.gier_tree.specs.Trees.{Heading, MkHeading, Formals, NoFormals, FormalList, LabelPlace, Declaration, DeclareOwn}
+use Rattle.gier_tree.specs.Trees.{DeclareOwnArrays, Group, MkBlock, MkCompound, Statements, NoStatements, MoreStatements}
+use Rattle.gier_tree.specs.Trees.{Statement, OneUnconditional, OneConditional, OneLoop, Unconditional, MkUnconditional, Basic}
+use Rattle.gier_tree.specs.Trees.{OneGroup, Assign, Jump, CallStatement, Dummy, Conditional, IfThen, IfElse, IfLoop, Loop, MkLoop}
+use Rattle.gier_tree.specs.Trees.{Program, MkProgram}
 
 abbrev pub list_of : Names → List Name
 list_of (MkNames x ns) = x ∷ map (λ n. n.name) ns

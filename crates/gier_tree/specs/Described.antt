@@ -3,9 +3,20 @@
 use Rattle.std.specs.Prelude.{ℕ, suc, ◌==◌, Bool, true, false, List, [], ◌∷◌, map, length, Option, None, Some, if◌then◌else◌}
 use Rattle.std.specs.List.{list_any}
 use Rattle.gier_tree.specs.declared.kind.Kind.{Kind}
-use Rattle.gier_tree.specs.declared.kind.Kind.TheVariants.{Undeclared, IntegerVariable, BooleanVariable, IntegerArray, BooleanArray, Label, Switch, Procedure, IntegerProcedure, BooleanProcedure, IntegerValue, BooleanValue, IntegerFormal, BooleanFormal, IntegerArrayFormal, BooleanArrayFormal, LabelFormal, SwitchFormal, StringFormal, ProcedureFormal, IntegerProcedureFormal, BooleanProcedureFormal, OutInteger, OutText, OutCr, OutChar, InInteger, InChar, Abs, Sign}
+use Rattle.gier_tree.specs.declared.kind.Kind.TheVariants.{Undeclared, IntegerVariable, BooleanVariable, IntegerArray}
+use Rattle.gier_tree.specs.declared.kind.Kind.TheVariants.{BooleanArray, Label, Switch, Procedure, IntegerProcedure}
+use Rattle.gier_tree.specs.declared.kind.Kind.TheVariants.{BooleanProcedure, IntegerValue, BooleanValue, IntegerFormal}
+use Rattle.gier_tree.specs.declared.kind.Kind.TheVariants.{BooleanFormal, IntegerArrayFormal, BooleanArrayFormal, LabelFormal}
+use Rattle.gier_tree.specs.declared.kind.Kind.TheVariants.{SwitchFormal, StringFormal, ProcedureFormal, IntegerProcedureFormal}
+use Rattle.gier_tree.specs.declared.kind.Kind.TheVariants.{BooleanProcedureFormal, OutInteger, OutText, OutCr, OutChar, InInteger}
+use Rattle.gier_tree.specs.declared.kind.Kind.TheVariants.{InChar, Abs, Sign}
 use Rattle.gier_tree.specs.Declaring.{list_of, formals_of, labels_of_statement, labels_of_statements, labels_of_program}
-use Rattle.gier_tree.specs.Trees.{Name, Names, ValueType, IntegerType, BooleanType, TypeWord, Segment, MkSegment, NextSegment, ValuePart, NoValues, ValueList, Specifier, ValueSpec, ArraySpec, LabelSpec, SwitchSpec, StringSpec, ProcedureSpec, FunctionSpec, Specification, Heading, MkHeading, LabelPlace, Declaration, DeclareType, DeclareOwn, DeclareArrays, DeclareOwnArrays, DeclareSwitch, DeclareProcedure, Declarations, NoDeclarations, MoreDeclarations, Statement, Statements, Program}
+use Rattle.gier_tree.specs.Trees.{Name, Names, ValueType, IntegerType, BooleanType, TypeWord, Segment, MkSegment, NextSegment}
+use Rattle.gier_tree.specs.Trees.{ValuePart, NoValues, ValueList, Specifier, ValueSpec, ArraySpec, LabelSpec, SwitchSpec}
+use Rattle.gier_tree.specs.Trees.{StringSpec, ProcedureSpec, FunctionSpec, Specification, Heading, MkHeading, LabelPlace}
+use Rattle.gier_tree.specs.Trees.{Declaration, DeclareType, DeclareOwn, DeclareArrays, DeclareOwnArrays, DeclareSwitch}
+use Rattle.gier_tree.specs.Trees.{DeclareProcedure, Declarations, NoDeclarations, MoreDeclarations, Statement, Statements}
+use Rattle.gier_tree.specs.Trees.{Program}
 
 -- its kind; of an array the number of subscripts, of a procedure that of its formals; and the kinds of those
 pub record Described : Type 0 where
@@ -100,7 +111,8 @@ bind_formals h [] scopes = scopes
 bind_formals h (x ∷ xs) scopes = bind x.number (plain (kind_in h x.number)) (bind_formals h xs scopes)
 
 abbrev pub procedure_described : Heading → Described
-procedure_described (MkHeading t l x fs m vs ss) = description (procedure_kind t) (length (formals_of (MkHeading t l x fs m vs ss))) (formal_kinds (MkHeading t l x fs m vs ss))
+procedure_described (MkHeading t l x fs m vs ss) =
+    description (procedure_kind t) (length (formals_of (MkHeading t l x fs m vs ss))) (formal_kinds (MkHeading t l x fs m vs ss))
 
 abbrev pub bind_procedure : Heading → Scopes → Scopes
 bind_procedure (MkHeading t l x fs m vs ss) scopes = bind x.number (procedure_described (MkHeading t l x fs m vs ss)) scopes
@@ -127,7 +139,8 @@ bind_declarations (MoreDeclarations d l ds) scopes = bind_declaration d (bind_de
 
 -- within a block, a procedure, a controlled statement, and a program
 abbrev pub block_scopes : Declaration → Declarations → Statement → Statements → Scopes → Scopes
-block_scopes d ds s ss scopes = bind_declaration d (bind_declarations ds (bind_labels (labels_of_statement s (labels_of_statements ss [])) scopes))
+block_scopes d ds s ss scopes =
+    bind_declaration d (bind_declarations ds (bind_labels (labels_of_statement s (labels_of_statements ss [])) scopes))
 
 abbrev pub procedure_scopes : Heading → Statement → Scopes → Scopes
 procedure_scopes h s scopes = bind_formals h (formals_of h) (bind_labels (labels_of_statement s []) scopes)
@@ -141,7 +154,8 @@ bind_standard [] x scopes = scopes
 bind_standard (kind ∷ kinds) x scopes = bind x (plain kind) (bind_standard kinds (suc x) scopes)
 
 abbrev pub standard_scopes : Scopes
-standard_scopes = bind_standard (OutInteger ∷ OutText ∷ OutCr ∷ OutChar ∷ InInteger ∷ InChar ∷ Abs ∷ Sign ∷ []) 0 (λ x. plain Undeclared)
+standard_scopes =
+    bind_standard (OutInteger ∷ OutText ∷ OutCr ∷ OutChar ∷ InInteger ∷ InChar ∷ Abs ∷ Sign ∷ []) 0 (λ x. plain Undeclared)
 
 abbrev pub program_scopes : Program → Scopes
 program_scopes t = bind_labels (labels_of_program t) standard_scopes

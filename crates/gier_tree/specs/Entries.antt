@@ -2,11 +2,21 @@
 -- scope come last. Where own quantities are hoisted, an own declaration has no entry in its place.
 use Rattle.std.specs.Prelude.{ℕ, suc, ◌+◌, List, [], ◌∷◌, ◌++◌, map, length}
 use Rattle.gier_tree.specs.declared.kind.Kind.{Kind}
-use Rattle.gier_tree.specs.declared.kind.Kind.TheVariants.{IntegerVariable, BooleanVariable, IntegerArray, BooleanArray, Label, Switch, Procedure, IntegerProcedure, BooleanProcedure, IntegerValue, BooleanValue, IntegerFormal, BooleanFormal, IntegerArrayFormal, BooleanArrayFormal, LabelFormal, SwitchFormal, StringFormal, ProcedureFormal, IntegerProcedureFormal, BooleanProcedureFormal}
-use Rattle.gier_tree.specs.Declaring.{list_of, formals_of, name_of_heading, labels_of_statement, labels_of_statements, labels_of_program}
+use Rattle.gier_tree.specs.declared.kind.Kind.TheVariants.{IntegerVariable, BooleanVariable, IntegerArray, BooleanArray, Label}
+use Rattle.gier_tree.specs.declared.kind.Kind.TheVariants.{Switch, Procedure, IntegerProcedure, BooleanProcedure, IntegerValue}
+use Rattle.gier_tree.specs.declared.kind.Kind.TheVariants.{BooleanValue, IntegerFormal, BooleanFormal, IntegerArrayFormal}
+use Rattle.gier_tree.specs.declared.kind.Kind.TheVariants.{BooleanArrayFormal, LabelFormal, SwitchFormal, StringFormal}
+use Rattle.gier_tree.specs.declared.kind.Kind.TheVariants.{ProcedureFormal, IntegerProcedureFormal, BooleanProcedureFormal}
+use Rattle.gier_tree.specs.Declaring.{list_of, formals_of, name_of_heading, labels_of_statement, labels_of_statements}
+use Rattle.gier_tree.specs.Declaring.{labels_of_program}
 use Rattle.gier_tree.specs.Described.{Described, description, plain, variable_kind, array_kind, kind_in, procedure_described}
 use Rattle.gier_tree.specs.Room.{descriptor}
-use Rattle.gier_tree.specs.Trees.{Name, ValueType, Segment, MkSegment, NextSegment, Heading, LabelPlace, Declaration, DeclareType, DeclareOwn, DeclareArrays, DeclareOwnArrays, DeclareSwitch, DeclareProcedure, Declarations, NoDeclarations, MoreDeclarations, Group, MkBlock, MkCompound, Statements, NoStatements, MoreStatements, Statement, OneUnconditional, OneConditional, OneLoop, Unconditional, MkUnconditional, Basic, OneGroup, Assign, Jump, CallStatement, Dummy, Conditional, IfThen, IfElse, IfLoop, Loop, MkLoop, Program}
+use Rattle.gier_tree.specs.Trees.{Name, ValueType, Segment, MkSegment, NextSegment, Heading, LabelPlace, Declaration, DeclareType}
+use Rattle.gier_tree.specs.Trees.{DeclareOwn, DeclareArrays, DeclareOwnArrays, DeclareSwitch, DeclareProcedure, Declarations}
+use Rattle.gier_tree.specs.Trees.{NoDeclarations, MoreDeclarations, Group, MkBlock, MkCompound, Statements, NoStatements}
+use Rattle.gier_tree.specs.Trees.{MoreStatements, Statement, OneUnconditional, OneConditional, OneLoop, Unconditional}
+use Rattle.gier_tree.specs.Trees.{MkUnconditional, Basic, OneGroup, Assign, Jump, CallStatement, Dummy, Conditional, IfThen}
+use Rattle.gier_tree.specs.Trees.{IfElse, IfLoop, Loop, MkLoop, Program}
 
 pub record Entry : Type 0 where
   pub name : Name
@@ -39,7 +49,8 @@ label_entries ls = map (λ l. entry (plain Label) l.name) ls
 
 -- of a block, a procedure, a controlled statement, and a program
 abbrev pub block_entries : Declaration → Declarations → Statement → Statements → List Entry
-block_entries d ds s ss = declaration_entries d ++ declarations_entries ds ++ label_entries (labels_of_statement s (labels_of_statements ss []))
+block_entries d ds s ss =
+    declaration_entries d ++ declarations_entries ds ++ label_entries (labels_of_statement s (labels_of_statements ss []))
 
 abbrev pub procedure_entries : Heading → Statement → List Entry
 procedure_entries h s = map (λ x. entry (plain (kind_in h x.number)) x) (formals_of h) ++ label_entries (labels_of_statement s [])
@@ -98,7 +109,8 @@ abbrev mutual
   numbers_declarations (MoreDeclarations d l ds) = numbers_declaration d + numbers_declarations ds
 
   pub numbers_group : Group → ℕ
-  numbers_group (MkBlock l d m ds s ss n) = entries_numbers (block_entries d ds s ss) + numbers_declaration d + numbers_declarations ds + numbers_statement s + numbers_statements ss
+  numbers_group (MkBlock l d m ds s ss n) = entries_numbers (block_entries d ds s ss) + numbers_declaration d
+      + numbers_declarations ds + numbers_statement s + numbers_statements ss
   numbers_group (MkCompound l s ss m) = numbers_statement s + numbers_statements ss
 
   pub numbers_statements : Statements → ℕ

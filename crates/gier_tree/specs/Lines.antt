@@ -1,6 +1,15 @@
 -- The lines of the first and of the last symbol of a part. A statement may have no symbol: then the line that is given counts.
 use Rattle.std.specs.Prelude.{ℕ, List, [], ◌∷◌, None, Some}
-use Rattle.gier_tree.specs.Trees.{Expr, OneSimple, IfExpr, Simple, OneImplication, Equivalent, Implication, OneDisjunction, Implies, Disjunction, OneConjunction, Either, Conjunction, OneNegation, Both, Negation, OneRelation, Negated, Relation, OneArithmetic, Compared, Arithmetic, OneTerm, Signed, Summed, Term, OneFactor, Multiplied, Factor, OnePrimary, Raised, Primary, Numeral, Logical, Bracketed, OneCall, OneElement, Call, Alone, WithActuals, Element, Subscripted, Actual, OneExpr, AString, Exprs, NoExprs, MoreExprs, NextName, Names, MkNames, ValuePart, NoValues, ValueList, Specification, Heading, MkHeading, LabelPlace, LeftSide, OneName, LeftElement, Turns, OneValue, StepUntil, WhileTrue, Group, MkBlock, MkCompound, Statement, OneUnconditional, OneConditional, OneLoop, Unconditional, MkUnconditional, Basic, OneGroup, Assign, Jump, CallStatement, Dummy, Conditional, IfThen, IfElse, IfLoop, Loop, MkLoop, Program, MkProgram}
+use Rattle.gier_tree.specs.Trees.{Expr, OneSimple, IfExpr, Simple, OneImplication, Equivalent, Implication, OneDisjunction}
+use Rattle.gier_tree.specs.Trees.{Implies, Disjunction, OneConjunction, Either, Conjunction, OneNegation, Both, Negation}
+use Rattle.gier_tree.specs.Trees.{OneRelation, Negated, Relation, OneArithmetic, Compared, Arithmetic, OneTerm, Signed, Summed}
+use Rattle.gier_tree.specs.Trees.{Term, OneFactor, Multiplied, Factor, OnePrimary, Raised, Primary, Numeral, Logical, Bracketed}
+use Rattle.gier_tree.specs.Trees.{OneCall, OneElement, Call, Alone, WithActuals, Element, Subscripted, Actual, OneExpr, AString}
+use Rattle.gier_tree.specs.Trees.{Exprs, NoExprs, MoreExprs, NextName, Names, MkNames, ValuePart, NoValues, ValueList}
+use Rattle.gier_tree.specs.Trees.{Specification, Heading, MkHeading, LabelPlace, LeftSide, OneName, LeftElement, Turns, OneValue}
+use Rattle.gier_tree.specs.Trees.{StepUntil, WhileTrue, Group, MkBlock, MkCompound, Statement, OneUnconditional, OneConditional}
+use Rattle.gier_tree.specs.Trees.{OneLoop, Unconditional, MkUnconditional, Basic, OneGroup, Assign, Jump, CallStatement, Dummy}
+use Rattle.gier_tree.specs.Trees.{Conditional, IfThen, IfElse, IfLoop, Loop, MkLoop, Program, MkProgram}
 
 abbrev mutual
   pub first_expr : Expr → ℕ

@@ -2,9 +2,21 @@
 -- formals are by value, the scopes tell.
 use Rattle.std.specs.Prelude.{ℕ, suc, ◌+◌, ◌*◌, max, List, [], ◌∷◌}
 use Rattle.gier_tree.specs.declared.kind.Kind.{Kind}
-use Rattle.gier_tree.specs.declared.kind.Kind.TheVariants.{Switch, Procedure, IntegerProcedure, BooleanProcedure, IntegerValue, BooleanValue, SwitchFormal, ProcedureFormal, IntegerProcedureFormal, BooleanProcedureFormal}
+use Rattle.gier_tree.specs.declared.kind.Kind.TheVariants.{Switch, Procedure, IntegerProcedure, BooleanProcedure, IntegerValue}
+use Rattle.gier_tree.specs.declared.kind.Kind.TheVariants.{BooleanValue, SwitchFormal, ProcedureFormal, IntegerProcedureFormal}
+use Rattle.gier_tree.specs.declared.kind.Kind.TheVariants.{BooleanProcedureFormal}
 use Rattle.gier_tree.specs.Described.{Scopes, turn_scopes}
-use Rattle.gier_tree.specs.Trees.{Expr, OneSimple, IfExpr, Simple, OneImplication, Equivalent, Implication, OneDisjunction, Implies, Disjunction, OneConjunction, Either, Conjunction, OneNegation, Both, Negation, OneRelation, Negated, Relation, OneArithmetic, Compared, Arithmetic, OneTerm, Signed, Summed, Term, OneFactor, Multiplied, Factor, OnePrimary, Raised, Primary, Numeral, Logical, Bracketed, OneCall, OneElement, Call, Alone, WithActuals, Element, Subscripted, Actual, OneExpr, AString, Actuals, NoActuals, MoreActuals, Exprs, NoExprs, MoreExprs, BoundPair, MkPair, NextPair, Segment, MkSegment, NextSegment, LeftSide, OneName, LeftElement, LeftPart, Turns, OneValue, StepUntil, WhileTrue, NextTurns, Declaration, DeclareArrays, Declarations, NoDeclarations, MoreDeclarations, Group, MkBlock, MkCompound, Statements, NoStatements, MoreStatements, Statement, OneUnconditional, OneConditional, OneLoop, Unconditional, MkUnconditional, Basic, OneGroup, Assign, Jump, CallStatement, Dummy, Conditional, IfThen, IfElse, IfLoop, Loop, MkLoop}
+use Rattle.gier_tree.specs.Trees.{Expr, OneSimple, IfExpr, Simple, OneImplication, Equivalent, Implication, OneDisjunction}
+use Rattle.gier_tree.specs.Trees.{Implies, Disjunction, OneConjunction, Either, Conjunction, OneNegation, Both, Negation}
+use Rattle.gier_tree.specs.Trees.{OneRelation, Negated, Relation, OneArithmetic, Compared, Arithmetic, OneTerm, Signed, Summed}
+use Rattle.gier_tree.specs.Trees.{Term, OneFactor, Multiplied, Factor, OnePrimary, Raised, Primary, Numeral, Logical, Bracketed}
+use Rattle.gier_tree.specs.Trees.{OneCall, OneElement, Call, Alone, WithActuals, Element, Subscripted, Actual, OneExpr, AString}
+use Rattle.gier_tree.specs.Trees.{Actuals, NoActuals, MoreActuals, Exprs, NoExprs, MoreExprs, BoundPair, MkPair, NextPair}
+use Rattle.gier_tree.specs.Trees.{Segment, MkSegment, NextSegment, LeftSide, OneName, LeftElement, LeftPart, Turns, OneValue}
+use Rattle.gier_tree.specs.Trees.{StepUntil, WhileTrue, NextTurns, Declaration, DeclareArrays, Declarations, NoDeclarations}
+use Rattle.gier_tree.specs.Trees.{MoreDeclarations, Group, MkBlock, MkCompound, Statements, NoStatements, MoreStatements}
+use Rattle.gier_tree.specs.Trees.{Statement, OneUnconditional, OneConditional, OneLoop, Unconditional, MkUnconditional, Basic}
+use Rattle.gier_tree.specs.Trees.{OneGroup, Assign, Jump, CallStatement, Dummy, Conditional, IfThen, IfElse, IfLoop, Loop, MkLoop}
 
 abbrev pub count_exprs : Exprs → ℕ
 count_exprs NoExprs = 0
@@ -98,7 +110,8 @@ abbrev mutual
   need_call scopes (WithActuals x l a more m) =
       let n = need_actual scopes a in
       let formals = (scopes x.number).formals in
-      call_need (scopes x.number).kind (suc (count_actuals more)) (max (first_need formals 0 n) (need_by_value scopes more (other_kinds formals) 2)) (max n (need_actuals scopes more))
+      call_need (scopes x.number).kind (suc (count_actuals more))
+      (max (first_need formals 0 n) (need_by_value scopes more (other_kinds formals) 2)) (max n (need_actuals scopes more))
 
   pub need_element : Scopes → Element → ℕ
   need_element scopes (Subscripted x l e es m) =
@@ -117,7 +130,8 @@ abbrev mutual
   -- the greatest over those for formals by value, where so many words are taken before
   pub need_by_value : Scopes → Actuals → List Kind → (before : ℕ) → ℕ
   need_by_value scopes NoActuals kinds before = 0
-  need_by_value scopes (MoreActuals l a more) kinds before = max (first_need kinds before (need_actual scopes a)) (need_by_value scopes more (other_kinds kinds) (before + 2))
+  need_by_value scopes (MoreActuals l a more) kinds before =
+      max (first_need kinds before (need_actual scopes a)) (need_by_value scopes more (other_kinds kinds) (before + 2))
 
   -- the greatest over subscripts, where so many words are taken before
   pub need_subscripts : Scopes → Exprs → (before : ℕ) → ℕ
@@ -185,11 +199,13 @@ abbrev mutual
 
   pub need_conditional : Scopes → Conditional → ℕ
   need_conditional scopes (IfThen ls l e m u) = max (need_expr scopes e) (need_unconditional scopes u)
-  need_conditional scopes (IfElse ls l e m u n s) = max (need_expr scopes e) (max (need_unconditional scopes u) (need_statement scopes s))
+  need_conditional scopes (IfElse ls l e m u n s) =
+      max (need_expr scopes e) (max (need_unconditional scopes u) (need_statement scopes s))
   need_conditional scopes (IfLoop ls l e m f) = max (need_expr scopes e) (need_loop scopes f)
 
   pub need_loop : Scopes → Loop → ℕ
-  need_loop scopes (MkLoop ls l x m t ts n s) = 1 + max (need_statement (turn_scopes s scopes) s) (max (need_turns scopes t) (need_next_turns scopes ts))
+  need_loop scopes (MkLoop ls l x m t ts n s) =
+      1 + max (need_statement (turn_scopes s scopes) s) (max (need_turns scopes t) (need_next_turns scopes ts))
 
 -- a block's own need: the greatest over its array segments and statements, in the scopes within it
 abbrev pub need_declaration : Scopes → Declaration → ℕ
@@ -201,4 +217,5 @@ need_declarations scopes NoDeclarations = 0
 need_declarations scopes (MoreDeclarations d l ds) = max (need_declaration scopes d) (need_declarations scopes ds)
 
 abbrev pub need_block : Scopes → Declaration → Declarations → Statement → Statements → ℕ
-need_block scopes d ds s ss = max (max (need_declaration scopes d) (need_declarations scopes ds)) (max (need_statement scopes s) (need_statements scopes ss))
+need_block scopes d ds s ss = max (max (need_declaration scopes d) (need_declarations scopes ds))
+    (max (need_statement scopes s) (need_statements scopes ss))

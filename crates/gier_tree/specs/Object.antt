@@ -1,5 +1,5 @@
--- Text 8 and the object, from text 7: the places of labels and the rooms of activations become known. Text 8 keeps a label's place where
--- the label is used behind it, and a use whose label stands before it; the object has addresses alone.
+-- Text 8 and the object, from text 7: the places of labels and the rooms of activations become known. Text 8 keeps a label's
+-- place where the label is used behind it, and a use whose label stands before it; the object has addresses alone.
 use Rattle.std.specs.Prelude.{ℕ, zero, suc, ◌+◌, ◌-◌, ◌*◌, ◌/◌, ◌%◌, ◌^◌, ◌==◌, Bool, true, false, List, [], ◌∷◌, if◌then◌else◌}
 use Rattle.std.specs.List.{list_any}
 use Rattle.gier_symbol.specs.declared.symbol.Symbol.{Symbol}
@@ -90,8 +90,10 @@ kept_if false s rest = rest
 -- a symbol, of a text, in text 8, where these labels stand before it
 abbrev pub in_text8 : Piece → (text : List Symbol) → (seen : List ℕ) → Symbol → (behind : List Symbol) → List Symbol → List Symbol
 in_text8 (APlace label) text seen s behind rest = kept_if (is_used label behind) s rest
-in_text8 (AUse head label) text seen s behind rest = (if list_any (λ q. q == label) seen then s else known_order head (address_of text label 0) s.line) ∷ rest
-in_text8 (AWordUse label) text seen s behind rest = (if list_any (λ q. q == label) seen then s else sym Word (address_of text label 0) s.line) ∷ rest
+in_text8 (AUse head label) text seen s behind rest =
+    (if list_any (λ q. q == label) seen then s else known_order head (address_of text label 0) s.line) ∷ rest
+in_text8 (AWordUse label) text seen s behind rest =
+    (if list_any (λ q. q == label) seen then s else sym Word (address_of text label 0) s.line) ∷ rest
 in_text8 (ARoom head room) text seen s behind rest = known_order head (room + need_behind behind 0) s.line ∷ rest
 in_text8 (ANeed need) text seen s behind rest = rest
 in_text8 ACount text seen s behind rest = rest

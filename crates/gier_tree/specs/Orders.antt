@@ -1,5 +1,5 @@
--- Pieces of code as symbols of text 7: orders, words, and the places of labels. Code is told the level of the activation in which it
--- stands, 0 in an evaluation, and the offset of the first free working place; it is written before what follows it.
+-- Pieces of code as symbols of text 7: orders, words, and the places of labels. Code is told the level of the activation in
+-- which it stands, 0 in an evaluation, and the offset of the first free working place; it is written before what follows it.
 use Rattle.std.specs.Prelude.{ℕ, suc, ◌+◌, ◌*◌, ◌^◌, List, [], ◌∷◌, Option, None, Some}
 use Rattle.gier_order.specs.declared.operation.Operation.{Operation}
 use Rattle.gier_order.specs.declared.operation.Operation.TheVariants.{Jump as OJump}
@@ -29,11 +29,13 @@ abbrev pub behind_word : State → (line : ℕ) → State
 behind_word st line = record { labels = st.labels; line = line; words = suc st.words }
 
 abbrev pub order : Operation → (level address line : ℕ) → State → Following → List Symbol
-order op level address line st go = record { tag = order_base + number_of op; value = level * 2 ^ 24 + address; line = line } ∷ go (behind_word st line)
+order op level address line st go =
+    record { tag = order_base + number_of op; value = level * 2 ^ 24 + address; line = line } ∷ go (behind_word st line)
 
 -- an order whose address is a label, and one whose address is a room that is still open
 abbrev pub with_label : Operation → (level label line : ℕ) → State → Following → List Symbol
-with_label op level label line st go = sym LabelOrder (number_of op * 2 ^ 32 + level * 2 ^ 24 + label) line ∷ go (behind_word st line)
+with_label op level label line st go =
+    sym LabelOrder (number_of op * 2 ^ 32 + level * 2 ^ 24 + label) line ∷ go (behind_word st line)
 
 abbrev pub room_order : Operation → (level room line : ℕ) → State → Following → List Symbol
 room_order op level room line st go = sym OpenRoom (number_of op * 2 ^ 32 + level * 2 ^ 24 + room) line ∷ go (behind_word st line)
@@ -76,5 +78,7 @@ data_words [] line st go = go st
 data_words (v ∷ vs) line st go = data_word v line st (λ s. data_words vs line s go)
 
 -- the orders of a jump over a piece that begins with a label
-abbrev pub jumped_over : (line : ℕ) → State → ((start : ℕ) → State → Following → List Symbol) → ((start : ℕ) → Following) → List Symbol
-jumped_over line st piece go = new st (λ x s. with_label OJump 0 x line s (λ s1. new s1 (λ start s2. define start s2 (λ s3. piece start s3 (λ s4. define x s4 (go start))))))
+abbrev pub jumped_over : (line : ℕ) → State → ((start : ℕ) → State → Following → List Symbol) → ((start : ℕ) → Following)
+    → List Symbol
+jumped_over line st piece go = new st (λ x s. with_label OJump 0 x line s (λ s1. new s1 (λ start s2. define start s2 (λ s3.
+    piece start s3 (λ s4. define x s4 (go start))))))

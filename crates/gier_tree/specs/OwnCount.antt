@@ -1,7 +1,11 @@
 -- How many own quantities there are in the parts of a program, and the own declarations in the order of the text (5).
 use Rattle.std.specs.Prelude.{ℕ, ◌+◌, List, [], ◌∷◌, length}
 use Rattle.gier_tree.specs.Declaring.{own_names}
-use Rattle.gier_tree.specs.Trees.{Declaration, DeclareType, DeclareOwn, DeclareArrays, DeclareOwnArrays, DeclareSwitch, DeclareProcedure, Declarations, NoDeclarations, MoreDeclarations, Group, MkBlock, MkCompound, Statements, NoStatements, MoreStatements, Statement, OneUnconditional, OneConditional, OneLoop, Unconditional, MkUnconditional, Basic, OneGroup, Assign, Jump, CallStatement, Dummy, Conditional, IfThen, IfElse, IfLoop, Loop, MkLoop, Program, MkProgram}
+use Rattle.gier_tree.specs.Trees.{Declaration, DeclareType, DeclareOwn, DeclareArrays, DeclareOwnArrays, DeclareSwitch}
+use Rattle.gier_tree.specs.Trees.{DeclareProcedure, Declarations, NoDeclarations, MoreDeclarations, Group, MkBlock, MkCompound}
+use Rattle.gier_tree.specs.Trees.{Statements, NoStatements, MoreStatements, Statement, OneUnconditional, OneConditional, OneLoop}
+use Rattle.gier_tree.specs.Trees.{Unconditional, MkUnconditional, Basic, OneGroup, Assign, Jump, CallStatement, Dummy}
+use Rattle.gier_tree.specs.Trees.{Conditional, IfThen, IfElse, IfLoop, Loop, MkLoop, Program, MkProgram}
 
 -- the own declarations of a part, and those that follow
 abbrev mutual
@@ -18,7 +22,8 @@ abbrev mutual
   owns_of_declarations (MoreDeclarations d l ds) rest = owns_of_declaration d (owns_of_declarations ds rest)
 
   pub owns_of_group : Group → List Declaration → List Declaration
-  owns_of_group (MkBlock l d m ds s ss n) rest = owns_of_declaration d (owns_of_declarations ds (owns_of_statement s (owns_of_statements ss rest)))
+  owns_of_group (MkBlock l d m ds s ss n) rest =
+      owns_of_declaration d (owns_of_declarations ds (owns_of_statement s (owns_of_statements ss rest)))
   owns_of_group (MkCompound l s ss m) rest = owns_of_statement s (owns_of_statements ss rest)
 
   pub owns_of_statements : Statements → List Declaration → List Declaration

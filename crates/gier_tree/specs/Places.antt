@@ -1,10 +1,11 @@
--- Where the quantity of an identifier is found: the level of its activation and its address there. A label, switch or procedure has in
--- place of an address its number among all of them, in the order of their entries.
+-- Where the quantity of an identifier is found: the level of its activation and its address there. A label, switch or procedure
+-- has in place of an address its number among all of them, in the order of their entries.
 use Rattle.std.specs.Prelude.{ℕ, ◌+◌, ◌==◌, List, [], ◌∷◌, if◌then◌else◌}
 use Rattle.gier_tree.specs.declared.kind.Kind.{Kind}
 use Rattle.gier_tree.specs.declared.kind.Kind.TheVariants.{Label, Switch, Procedure, IntegerProcedure, BooleanProcedure}
 use Rattle.gier_tree.specs.Described.{Described, standard_scopes}
-use Rattle.gier_tree.specs.Entries.{Entry, kind_words, kind_numbers, block_entries, procedure_entries, turn_entries, program_entries}
+use Rattle.gier_tree.specs.Entries.{Entry, kind_words, kind_numbers, block_entries, procedure_entries, turn_entries}
+use Rattle.gier_tree.specs.Entries.{program_entries}
 use Rattle.gier_tree.specs.Room.{block_header, call_header, result_words}
 use Rattle.gier_tree.specs.Trees.{Heading, MkHeading, Declaration, Declarations, Statement, Statements, Program}
 

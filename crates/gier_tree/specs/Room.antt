@@ -4,7 +4,9 @@ use Rattle.std.specs.Prelude.{ℕ, suc, ◌+◌, ◌*◌, List, [], ◌∷◌, l
 use Rattle.gier_tree.specs.Declaring.{list_of, formals_of}
 use Rattle.gier_tree.specs.Described.{Scopes, block_scopes, procedure_scopes, program_scopes}
 use Rattle.gier_tree.specs.Need.{need_expr, need_statement, need_group, need_block}
-use Rattle.gier_tree.specs.Trees.{Expr, TypeWord, Segment, MkSegment, NextSegment, Heading, MkHeading, Declaration, DeclareType, DeclareArrays, Declarations, NoDeclarations, MoreDeclarations, Statement, Statements, Program, MkProgram}
+use Rattle.gier_tree.specs.Trees.{Expr, TypeWord, Segment, MkSegment, NextSegment, Heading, MkHeading, Declaration, DeclareType}
+use Rattle.gier_tree.specs.Trees.{DeclareArrays, Declarations, NoDeclarations, MoreDeclarations, Statement, Statements, Program}
+use Rattle.gier_tree.specs.Trees.{MkProgram}
 
 -- the words of a program's and a block's header, and of a procedure's and an evaluation's
 abbrev pub block_header : ℕ

@@ -2,9 +2,14 @@
 use Rattle.std.specs.Prelude.{◌==◌, ℕ, Bool, true, false, List, [], ◌∷◌, find, Option, Some}
 use Rattle.gier_symbol.specs.declared.symbol.Symbol.{Symbol}
 use Rattle.gier_symbol.specs.declared.tag.Tag.{Tag}
-use Rattle.gier_symbol.specs.declared.tag.Tag.TheVariants.{Letter, Identifier, Number, StringBegin, StringByte, StringEnd, TextEnd, Power, Not, And, Or, Impl, Equiv, Comma, Colon, Semicolon, Becomes, LeftParenthesis, RightParenthesis, LeftBracket, RightBracket, Begin, End, If, Then, Else, For, Step, Until, While, Do, Goto, Array, Switch, Procedure, String, Label, Value, Own}
+use Rattle.gier_symbol.specs.declared.tag.Tag.TheVariants.{Letter, Identifier, Number, StringBegin, StringByte, StringEnd}
+use Rattle.gier_symbol.specs.declared.tag.Tag.TheVariants.{TextEnd, Power, Not, And, Or, Impl, Equiv, Comma, Colon, Semicolon}
+use Rattle.gier_symbol.specs.declared.tag.Tag.TheVariants.{Becomes, LeftParenthesis, RightParenthesis, LeftBracket, RightBracket}
+use Rattle.gier_symbol.specs.declared.tag.Tag.TheVariants.{Begin, End, If, Then, Else, For, Step, Until, While, Do, Goto, Array}
+use Rattle.gier_symbol.specs.declared.tag.Tag.TheVariants.{Switch, Procedure, String, Label, Value, Own}
 use Rattle.gier_symbol.specs.Tags.{number_of}
-use Rattle.gier_tree.specs.Trees.{Adding, Add, Subtract, Multiplying, Multiply, Divide, Comparing, LessThan, AtMost, EqualTo, AtLeast, MoreThan, Unequal, ValueType, IntegerType, BooleanType}
+use Rattle.gier_tree.specs.Trees.{Adding, Add, Subtract, Multiplying, Multiply, Divide, Comparing, LessThan, AtMost, EqualTo}
+use Rattle.gier_tree.specs.Trees.{AtLeast, MoreThan, Unequal, ValueType, IntegerType, BooleanType}
 use Rattle.gier_tree.specs.Spell.{adding_tag, multiplying_tag, comparing_tag, logical_tag, type_tag}
 
 pub data Sign : Type 0 where
@@ -102,7 +107,12 @@ sign_tag SStrange = Letter
 
 -- the signs without a value
 abbrev pub plain_signs : List Sign
-plain_signs = SStringBegin ∷ SStringEnd ∷ STextEnd ∷ SAdding Add ∷ SAdding Subtract ∷ SMultiplying Multiply ∷ SMultiplying Divide ∷ SPower ∷ SComparing LessThan ∷ SComparing AtMost ∷ SComparing EqualTo ∷ SComparing AtLeast ∷ SComparing MoreThan ∷ SComparing Unequal ∷ SNot ∷ SAnd ∷ SOr ∷ SImpl ∷ SEquiv ∷ SLogical true ∷ SLogical false ∷ SComma ∷ SColon ∷ SSemicolon ∷ SBecomes ∷ SLeftParenthesis ∷ SRightParenthesis ∷ SLeftBracket ∷ SRightBracket ∷ SBegin ∷ SEnd ∷ SIf ∷ SThen ∷ SElse ∷ SFor ∷ SStep ∷ SUntil ∷ SWhile ∷ SDo ∷ SGoto ∷ SType IntegerType ∷ SType BooleanType ∷ SArray ∷ SSwitch ∷ SProcedure ∷ SString ∷ SLabel ∷ SValue ∷ SOwn ∷ []
+plain_signs = SStringBegin ∷ SStringEnd ∷ STextEnd ∷ SAdding Add ∷ SAdding Subtract ∷ SMultiplying Multiply ∷ SMultiplying Divide
+    ∷ SPower ∷ SComparing LessThan ∷ SComparing AtMost ∷ SComparing EqualTo ∷ SComparing AtLeast ∷ SComparing MoreThan
+    ∷ SComparing Unequal ∷ SNot ∷ SAnd ∷ SOr ∷ SImpl ∷ SEquiv ∷ SLogical true ∷ SLogical false ∷ SComma ∷ SColon ∷ SSemicolon
+    ∷ SBecomes ∷ SLeftParenthesis ∷ SRightParenthesis ∷ SLeftBracket ∷ SRightBracket ∷ SBegin ∷ SEnd ∷ SIf ∷ SThen ∷ SElse ∷ SFor
+    ∷ SStep ∷ SUntil ∷ SWhile ∷ SDo ∷ SGoto ∷ SType IntegerType ∷ SType BooleanType ∷ SArray ∷ SSwitch ∷ SProcedure ∷ SString
+    ∷ SLabel ∷ SValue ∷ SOwn ∷ []
 
 abbrev pub has_tag : (tag : ℕ) → Sign → Bool
 has_tag tag sign = tag == number_of (sign_tag sign)

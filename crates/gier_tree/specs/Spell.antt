@@ -3,9 +3,33 @@
 use Rattle.std.specs.Prelude.{ℕ, zero, suc, Bool, true, false, List, [], ◌∷◌, Option, None, Some}
 use Rattle.gier_symbol.specs.declared.symbol.Symbol.{Symbol}
 use Rattle.gier_symbol.specs.declared.tag.Tag.{Tag}
-use Rattle.gier_symbol.specs.declared.tag.Tag.TheVariants.{Identifier, Number, StringBegin, StringByte, StringEnd, TextEnd, Plus, Minus, Times, Div, Power, Less, NotGreater, Equal, NotLess, Greater, NotEqual, Not, And, Or, Impl, Equiv, True, False, Comma, Colon, Semicolon, Becomes, LeftParenthesis, RightParenthesis, LeftBracket, RightBracket, Begin, End, If, Then, Else, For, Step, Until, While, Do, Goto, Integer, Boolean, Array, Switch, Procedure, String, Label, Value, Own}
+use Rattle.gier_symbol.specs.declared.tag.Tag.TheVariants.{Identifier, Number, StringBegin, StringByte, StringEnd, TextEnd, Plus}
+use Rattle.gier_symbol.specs.declared.tag.Tag.TheVariants.{Minus, Times, Div, Power, Less, NotGreater, Equal, NotLess, Greater}
+use Rattle.gier_symbol.specs.declared.tag.Tag.TheVariants.{NotEqual, Not, And, Or, Impl, Equiv, True, False, Comma, Colon}
+use Rattle.gier_symbol.specs.declared.tag.Tag.TheVariants.{Semicolon, Becomes, LeftParenthesis, RightParenthesis, LeftBracket}
+use Rattle.gier_symbol.specs.declared.tag.Tag.TheVariants.{RightBracket, Begin, End, If, Then, Else, For, Step, Until, While, Do}
+use Rattle.gier_symbol.specs.declared.tag.Tag.TheVariants.{Goto, Integer, Boolean, Array, Switch, Procedure, String, Label, Value}
+use Rattle.gier_symbol.specs.declared.tag.Tag.TheVariants.{Own}
 use Rattle.gier_symbol.specs.ByTag.{sym, word}
-use Rattle.gier_tree.specs.Trees.{Name, Byte, Adding, Add, Subtract, Multiplying, Multiply, Divide, Comparing, LessThan, AtMost, EqualTo, AtLeast, MoreThan, Unequal, Expr, OneSimple, IfExpr, Simple, OneImplication, Equivalent, Implication, OneDisjunction, Implies, Disjunction, OneConjunction, Either, Conjunction, OneNegation, Both, Negation, OneRelation, Negated, Relation, OneArithmetic, Compared, Arithmetic, OneTerm, Signed, Summed, Term, OneFactor, Multiplied, Factor, OnePrimary, Raised, Primary, Numeral, Logical, Bracketed, OneCall, OneElement, Call, Alone, WithActuals, Element, Subscripted, Actual, OneExpr, AString, Actuals, NoActuals, MoreActuals, Exprs, NoExprs, MoreExprs, NextName, Names, MkNames, ValueType, IntegerType, BooleanType, TypeWord, BoundPair, MkPair, NextPair, Segment, MkSegment, NextSegment, Constant, Unsigned, WithSign, FixedPair, MkFixedPair, Further, NoFurther, MoreFurther, FurtherPairs, most_further, FixedSegment, MkFixed, NextFixed, Formals, NoFormals, FormalList, ValuePart, NoValues, ValueList, Specifier, ValueSpec, ArraySpec, LabelSpec, SwitchSpec, StringSpec, ProcedureSpec, FunctionSpec, Specification, Heading, MkHeading, LabelPlace, LeftSide, OneName, LeftElement, LeftPart, Turns, OneValue, StepUntil, WhileTrue, NextTurns, Declaration, DeclareType, DeclareOwn, DeclareArrays, DeclareOwnArrays, DeclareSwitch, DeclareProcedure, Declarations, NoDeclarations, MoreDeclarations, Group, MkBlock, MkCompound, Statements, NoStatements, MoreStatements, Statement, OneUnconditional, OneConditional, OneLoop, Unconditional, MkUnconditional, Basic, OneGroup, Assign, Jump, CallStatement, Dummy, Conditional, IfThen, IfElse, IfLoop, Loop, MkLoop, Program, MkProgram}
+use Rattle.gier_tree.specs.Trees.{Name, Byte, Adding, Add, Subtract, Multiplying, Multiply, Divide, Comparing, LessThan, AtMost}
+use Rattle.gier_tree.specs.Trees.{EqualTo, AtLeast, MoreThan, Unequal, Expr, OneSimple, IfExpr, Simple, OneImplication}
+use Rattle.gier_tree.specs.Trees.{Equivalent, Implication, OneDisjunction, Implies, Disjunction, OneConjunction, Either}
+use Rattle.gier_tree.specs.Trees.{Conjunction, OneNegation, Both, Negation, OneRelation, Negated, Relation, OneArithmetic}
+use Rattle.gier_tree.specs.Trees.{Compared, Arithmetic, OneTerm, Signed, Summed, Term, OneFactor, Multiplied, Factor, OnePrimary}
+use Rattle.gier_tree.specs.Trees.{Raised, Primary, Numeral, Logical, Bracketed, OneCall, OneElement, Call, Alone, WithActuals}
+use Rattle.gier_tree.specs.Trees.{Element, Subscripted, Actual, OneExpr, AString, Actuals, NoActuals, MoreActuals, Exprs, NoExprs}
+use Rattle.gier_tree.specs.Trees.{MoreExprs, NextName, Names, MkNames, ValueType, IntegerType, BooleanType, TypeWord, BoundPair}
+use Rattle.gier_tree.specs.Trees.{MkPair, NextPair, Segment, MkSegment, NextSegment, Constant, Unsigned, WithSign, FixedPair}
+use Rattle.gier_tree.specs.Trees.{MkFixedPair, Further, NoFurther, MoreFurther, FurtherPairs, most_further, FixedSegment, MkFixed}
+use Rattle.gier_tree.specs.Trees.{NextFixed, Formals, NoFormals, FormalList, ValuePart, NoValues, ValueList, Specifier, ValueSpec}
+use Rattle.gier_tree.specs.Trees.{ArraySpec, LabelSpec, SwitchSpec, StringSpec, ProcedureSpec, FunctionSpec, Specification}
+use Rattle.gier_tree.specs.Trees.{Heading, MkHeading, LabelPlace, LeftSide, OneName, LeftElement, LeftPart, Turns, OneValue}
+use Rattle.gier_tree.specs.Trees.{StepUntil, WhileTrue, NextTurns, Declaration, DeclareType, DeclareOwn, DeclareArrays}
+use Rattle.gier_tree.specs.Trees.{DeclareOwnArrays, DeclareSwitch, DeclareProcedure, Declarations, NoDeclarations}
+use Rattle.gier_tree.specs.Trees.{MoreDeclarations, Group, MkBlock, MkCompound, Statements, NoStatements, MoreStatements}
+use Rattle.gier_tree.specs.Trees.{Statement, OneUnconditional, OneConditional, OneLoop, Unconditional, MkUnconditional, Basic}
+use Rattle.gier_tree.specs.Trees.{OneGroup, Assign, Jump, CallStatement, Dummy, Conditional, IfThen, IfElse, IfLoop, Loop, MkLoop}
+use Rattle.gier_tree.specs.Trees.{Program, MkProgram}
 
 abbrev pub ident : Name → Symbol
 ident x = sym Identifier x.number x.line
@@ -91,10 +115,12 @@ abbrev mutual
 
   pub spell_call : Call → List Symbol → List Symbol
   spell_call (Alone x) rest = ident x ∷ rest
-  spell_call (WithActuals x l a more m) rest = ident x ∷ word LeftParenthesis l ∷ spell_actual a (spell_actuals more (word RightParenthesis m ∷ rest))
+  spell_call (WithActuals x l a more m) rest =
+      ident x ∷ word LeftParenthesis l ∷ spell_actual a (spell_actuals more (word RightParenthesis m ∷ rest))
 
   pub spell_element : Element → List Symbol → List Symbol
-  spell_element (Subscripted x l e es m) rest = ident x ∷ word LeftBracket l ∷ spell_expr e (spell_exprs es (word RightBracket m ∷ rest))
+  spell_element (Subscripted x l e es m) rest =
+      ident x ∷ word LeftBracket l ∷ spell_expr e (spell_exprs es (word RightBracket m ∷ rest))
 
   pub spell_actual : Actual → List Symbol → List Symbol
   spell_actual (OneExpr e) rest = spell_expr e rest
@@ -132,7 +158,8 @@ spell_next_pairs [] rest = rest
 spell_next_pairs (p ∷ ps) rest = word Comma p.comma ∷ spell_pair p.pair (spell_next_pairs ps rest)
 
 abbrev pub spell_segment : Segment → List Symbol → List Symbol
-spell_segment (MkSegment ns l p ps m) rest = spell_names ns (word LeftBracket l ∷ spell_pair p (spell_next_pairs ps (word RightBracket m ∷ rest)))
+spell_segment (MkSegment ns l p ps m) rest =
+    spell_names ns (word LeftBracket l ∷ spell_pair p (spell_next_pairs ps (word RightBracket m ∷ rest)))
 
 abbrev pub spell_next_segments : List NextSegment → List Symbol → List Symbol
 spell_next_segments [] rest = rest
@@ -154,7 +181,8 @@ spell_further_pairs zero more rest = rest
 spell_further_pairs (suc n) more rest = spell_further (spell_further_pairs n) more rest
 
 abbrev pub spell_fixed : FixedSegment → List Symbol → List Symbol
-spell_fixed (MkFixed ns l p ps m) rest = spell_names ns (word LeftBracket l ∷ spell_fixed_pair p (spell_further_pairs most_further ps (word RightBracket m ∷ rest)))
+spell_fixed (MkFixed ns l p ps m) rest =
+    spell_names ns (word LeftBracket l ∷ spell_fixed_pair p (spell_further_pairs most_further ps (word RightBracket m ∷ rest)))
 
 abbrev pub spell_next_fixed : List NextFixed → List Symbol → List Symbol
 spell_next_fixed [] rest = rest
@@ -180,10 +208,12 @@ spell_specifier (FunctionSpec t l) rest = spell_type t (word Procedure l ∷ res
 
 abbrev pub spell_specifications : List Specification → List Symbol → List Symbol
 spell_specifications [] rest = rest
-spell_specifications (s ∷ ss) rest = spell_specifier s.specifier (spell_names s.names (word Semicolon s.semicolon ∷ spell_specifications ss rest))
+spell_specifications (s ∷ ss) rest =
+    spell_specifier s.specifier (spell_names s.names (word Semicolon s.semicolon ∷ spell_specifications ss rest))
 
 abbrev pub spell_heading : Heading → List Symbol → List Symbol
-spell_heading (MkHeading t l x fs m vs ss) rest = spell_option_type t (word Procedure l ∷ ident x ∷ spell_formals fs (word Semicolon m ∷ spell_values vs (spell_specifications ss rest)))
+spell_heading (MkHeading t l x fs m vs ss) rest = spell_option_type t (word Procedure l ∷ ident x
+    ∷ spell_formals fs (word Semicolon m ∷ spell_values vs (spell_specifications ss rest)))
 
 -- parts of statements
 abbrev pub spell_labels : List LabelPlace → List Symbol → List Symbol
@@ -213,7 +243,8 @@ abbrev mutual
   spell_declaration (DeclareType t ns) rest = spell_type t (spell_names ns rest)
   spell_declaration (DeclareOwn l t ns) rest = word Own l ∷ spell_type t (spell_names ns rest)
   spell_declaration (DeclareArrays t l s ss) rest = spell_type t (word Array l ∷ spell_segment s (spell_next_segments ss rest))
-  spell_declaration (DeclareOwnArrays k t l s ss) rest = word Own k ∷ spell_type t (word Array l ∷ spell_fixed s (spell_next_fixed ss rest))
+  spell_declaration (DeclareOwnArrays k t l s ss) rest =
+      word Own k ∷ spell_type t (word Array l ∷ spell_fixed s (spell_next_fixed ss rest))
   spell_declaration (DeclareSwitch l x m e es) rest = word Switch l ∷ ident x ∷ word Becomes m ∷ spell_expr e (spell_exprs es rest)
   spell_declaration (DeclareProcedure h s) rest = spell_heading h (spell_statement s rest)
 
@@ -222,7 +253,9 @@ abbrev mutual
   spell_declarations (MoreDeclarations d l ds) rest = spell_declaration d (word Semicolon l ∷ spell_declarations ds rest)
 
   pub spell_group : Group → List Symbol → List Symbol
-  spell_group (MkBlock l d m ds s ss n) rest = word Begin l ∷ spell_declaration d (word Semicolon m ∷ spell_declarations ds (spell_statement s (spell_statements ss (word End n ∷ rest))))
+  spell_group (MkBlock l d m ds s ss n) rest = word Begin l
+      ∷ spell_declaration d (word Semicolon m ∷ spell_declarations ds (spell_statement s (spell_statements ss
+      (word End n ∷ rest))))
   spell_group (MkCompound l s ss m) rest = word Begin l ∷ spell_statement s (spell_statements ss (word End m ∷ rest))
 
   pub spell_statements : Statements → List Symbol → List Symbol
@@ -246,11 +279,13 @@ abbrev mutual
 
   pub spell_conditional : Conditional → List Symbol → List Symbol
   spell_conditional (IfThen ls l e m u) rest = spell_labels ls (word If l ∷ spell_expr e (word Then m ∷ spell_unconditional u rest))
-  spell_conditional (IfElse ls l e m u n s) rest = spell_labels ls (word If l ∷ spell_expr e (word Then m ∷ spell_unconditional u (word Else n ∷ spell_statement s rest)))
+  spell_conditional (IfElse ls l e m u n s) rest =
+      spell_labels ls (word If l ∷ spell_expr e (word Then m ∷ spell_unconditional u (word Else n ∷ spell_statement s rest)))
   spell_conditional (IfLoop ls l e m f) rest = spell_labels ls (word If l ∷ spell_expr e (word Then m ∷ spell_loop f rest))
 
   pub spell_loop : Loop → List Symbol → List Symbol
-  spell_loop (MkLoop ls l x m t ts n s) rest = spell_labels ls (word For l ∷ ident x ∷ word Becomes m ∷ spell_turns t (spell_next_turns ts (word Do n ∷ spell_statement s rest)))
+  spell_loop (MkLoop ls l x m t ts n s) rest = spell_labels ls (word For l ∷ ident x ∷ word Becomes m
+      ∷ spell_turns t (spell_next_turns ts (word Do n ∷ spell_statement s rest)))
 
 -- a program and the end of its text
 abbrev pub spell_program : Program → List Symbol

@@ -67,7 +67,8 @@ abbrev pub gather : {T : Type 0} → (is st : List Item) → (Trees is → T) �
 gather is st f None = None
 gather is st f (Some ts) = let r = split is st ts in Some (f r.0, r.1)
 
-abbrev pub build_act : {T : Type 0} → Act T → (st : List Item) → ((st : List Item) → Option (Trees st)) → Option (Trees st) → Option (T × Trees st)
+abbrev pub build_act : {T : Type 0} → Act T → (st : List Item) → ((st : List Item) → Option (Trees st)) → Option (Trees st)
+    → Option (T × Trees st)
 build_act Refuse st next below = None
 build_act (Pass t) st next below = with_tree t below
 build_act (Push is f) st next below = gather is st f (next (is ++ st))

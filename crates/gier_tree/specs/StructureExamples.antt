@@ -23,7 +23,8 @@ open_group = row 36 0 1 ∷ row 3 8 1 ∷ row 31 0 1 ∷ row 4 1 1 ∷ row 30 0 
 
 -- declarations stand before statements
 abbrev pub late_declaration : List Symbol
-late_declaration = row 36 0 1 ∷ row 3 8 1 ∷ row 31 0 1 ∷ row 4 1 1 ∷ row 30 0 1 ∷ row 47 0 2 ∷ row 3 9 2 ∷ row 37 0 2 ∷ row 8 0 2 ∷ []
+late_declaration =
+    row 36 0 1 ∷ row 3 8 1 ∷ row 31 0 1 ∷ row 4 1 1 ∷ row 30 0 1 ∷ row 47 0 2 ∷ row 3 9 2 ∷ row 37 0 2 ∷ row 8 0 2 ∷ []
 
 -- behind a declaration stands a semicolon
 abbrev pub no_semicolon : List Symbol
@@ -31,19 +32,23 @@ no_semicolon = row 36 0 1 ∷ row 47 0 1 ∷ row 3 8 1 ∷ row 37 0 2 ∷ row 8 
 
 -- no conditional statement stands behind then
 abbrev pub if_then_if : List Symbol
-if_then_if = row 36 0 1 ∷ row 38 0 1 ∷ row 3 8 1 ∷ row 39 0 1 ∷ row 38 0 2 ∷ row 3 9 2 ∷ row 39 0 2 ∷ row 3 10 2 ∷ row 37 0 2 ∷ row 8 0 2 ∷ []
+if_then_if = row 36 0 1 ∷ row 38 0 1 ∷ row 3 8 1 ∷ row 39 0 1 ∷ row 38 0 2 ∷ row 3 9 2 ∷ row 39 0 2 ∷ row 3 10 2 ∷ row 37 0 2
+    ∷ row 8 0 2 ∷ []
 
 -- labelled or not
 abbrev pub labelled_if : List Symbol
-labelled_if = row 36 0 1 ∷ row 38 0 1 ∷ row 3 8 1 ∷ row 39 0 1 ∷ row 3 9 1 ∷ row 29 0 1 ∷ row 38 0 2 ∷ row 3 10 2 ∷ row 39 0 2 ∷ row 3 11 2 ∷ row 37 0 2 ∷ row 8 0 2 ∷ []
+labelled_if = row 36 0 1 ∷ row 38 0 1 ∷ row 3 8 1 ∷ row 39 0 1 ∷ row 3 9 1 ∷ row 29 0 1 ∷ row 38 0 2 ∷ row 3 10 2 ∷ row 39 0 2
+    ∷ row 3 11 2 ∷ row 37 0 2 ∷ row 8 0 2 ∷ []
 
 -- a for statement behind then takes no else of that if
 abbrev pub loop_else : List Symbol
-loop_else = row 36 0 1 ∷ row 38 0 1 ∷ row 3 8 1 ∷ row 39 0 1 ∷ row 41 0 1 ∷ row 3 9 1 ∷ row 31 0 1 ∷ row 4 1 1 ∷ row 45 0 1 ∷ row 3 10 1 ∷ row 40 0 2 ∷ row 3 11 2 ∷ row 37 0 2 ∷ row 8 0 2 ∷ []
+loop_else = row 36 0 1 ∷ row 38 0 1 ∷ row 3 8 1 ∷ row 39 0 1 ∷ row 41 0 1 ∷ row 3 9 1 ∷ row 31 0 1 ∷ row 4 1 1 ∷ row 45 0 1
+    ∷ row 3 10 1 ∷ row 40 0 2 ∷ row 3 11 2 ∷ row 37 0 2 ∷ row 8 0 2 ∷ []
 
 -- an else in its controlled statement belongs to the if there
 abbrev pub inner_else : List Symbol
-inner_else = row 36 0 1 ∷ row 38 0 1 ∷ row 3 8 1 ∷ row 39 0 1 ∷ row 41 0 1 ∷ row 3 9 1 ∷ row 31 0 1 ∷ row 4 1 1 ∷ row 45 0 1 ∷ row 38 0 1 ∷ row 3 10 1 ∷ row 39 0 1 ∷ row 3 11 1 ∷ row 40 0 2 ∷ row 3 12 2 ∷ row 37 0 2 ∷ row 8 0 2 ∷ []
+inner_else = row 36 0 1 ∷ row 38 0 1 ∷ row 3 8 1 ∷ row 39 0 1 ∷ row 41 0 1 ∷ row 3 9 1 ∷ row 31 0 1 ∷ row 4 1 1 ∷ row 45 0 1
+    ∷ row 38 0 1 ∷ row 3 10 1 ∷ row 39 0 1 ∷ row 3 11 1 ∷ row 40 0 2 ∷ row 3 12 2 ∷ row 37 0 2 ∷ row 8 0 2 ∷ []
 
 -- a dummy statement stands before else
 abbrev pub dummy_else : List Symbol
@@ -51,7 +56,8 @@ dummy_else = row 36 0 1 ∷ row 38 0 1 ∷ row 3 8 1 ∷ row 39 0 1 ∷ row 40 0
 
 -- a relation has two sides
 abbrev pub two_relations : List Symbol
-two_relations = row 36 0 1 ∷ row 3 8 1 ∷ row 31 0 1 ∷ row 3 9 1 ∷ row 15 0 1 ∷ row 3 10 1 ∷ row 15 0 2 ∷ row 3 11 2 ∷ row 37 0 2 ∷ row 8 0 2 ∷ []
+two_relations = row 36 0 1 ∷ row 3 8 1 ∷ row 31 0 1 ∷ row 3 9 1 ∷ row 15 0 1 ∷ row 3 10 1 ∷ row 15 0 2 ∷ row 3 11 2 ∷ row 37 0 2
+    ∷ row 8 0 2 ∷ []
 
 -- a sign stands first
 abbrev pub second_sign : List Symbol
@@ -63,15 +69,18 @@ not_not = row 36 0 1 ∷ row 3 8 1 ∷ row 31 0 1 ∷ row 21 0 1 ∷ row 21 0 2 
 
 -- a sign stands first on each side
 abbrev pub sign_in_relation : List Symbol
-sign_in_relation = row 36 0 1 ∷ row 3 8 1 ∷ row 31 0 1 ∷ row 11 0 1 ∷ row 3 9 1 ∷ row 15 0 1 ∷ row 11 0 2 ∷ row 3 10 2 ∷ row 37 0 2 ∷ row 8 0 2 ∷ []
+sign_in_relation = row 36 0 1 ∷ row 3 8 1 ∷ row 31 0 1 ∷ row 11 0 1 ∷ row 3 9 1 ∷ row 15 0 1 ∷ row 11 0 2 ∷ row 3 10 2
+    ∷ row 37 0 2 ∷ row 8 0 2 ∷ []
 
 -- a conditional expression as an operand stands in parentheses
 abbrev pub if_operand : List Symbol
-if_operand = row 36 0 1 ∷ row 3 8 1 ∷ row 31 0 1 ∷ row 4 1 1 ∷ row 10 0 1 ∷ row 38 0 2 ∷ row 3 9 2 ∷ row 39 0 2 ∷ row 3 10 2 ∷ row 40 0 2 ∷ row 3 11 2 ∷ row 37 0 2 ∷ row 8 0 2 ∷ []
+if_operand = row 36 0 1 ∷ row 3 8 1 ∷ row 31 0 1 ∷ row 4 1 1 ∷ row 10 0 1 ∷ row 38 0 2 ∷ row 3 9 2 ∷ row 39 0 2 ∷ row 3 10 2
+    ∷ row 40 0 2 ∷ row 3 11 2 ∷ row 37 0 2 ∷ row 8 0 2 ∷ []
 
 -- the branch behind then is simple
 abbrev pub then_if_expr : List Symbol
-then_if_expr = row 36 0 1 ∷ row 3 8 1 ∷ row 31 0 1 ∷ row 38 0 1 ∷ row 3 9 1 ∷ row 39 0 1 ∷ row 38 0 2 ∷ row 3 10 2 ∷ row 39 0 2 ∷ row 3 11 2 ∷ row 40 0 2 ∷ row 3 12 2 ∷ row 40 0 2 ∷ row 3 13 2 ∷ row 37 0 2 ∷ row 8 0 2 ∷ []
+then_if_expr = row 36 0 1 ∷ row 3 8 1 ∷ row 31 0 1 ∷ row 38 0 1 ∷ row 3 9 1 ∷ row 39 0 1 ∷ row 38 0 2 ∷ row 3 10 2 ∷ row 39 0 2
+    ∷ row 3 11 2 ∷ row 40 0 2 ∷ row 3 12 2 ∷ row 40 0 2 ∷ row 3 13 2 ∷ row 37 0 2 ∷ row 8 0 2 ∷ []
 
 -- a call is no left part
 abbrev pub left_call : List Symbol
@@ -79,11 +88,14 @@ left_call = row 36 0 1 ∷ row 3 8 1 ∷ row 32 0 1 ∷ row 4 1 1 ∷ row 33 0 1
 
 -- nor a sum, behind a first left part
 abbrev pub sum_left : List Symbol
-sum_left = row 36 0 1 ∷ row 3 8 1 ∷ row 31 0 1 ∷ row 3 9 1 ∷ row 10 0 1 ∷ row 3 10 1 ∷ row 31 0 2 ∷ row 4 2 2 ∷ row 37 0 2 ∷ row 8 0 2 ∷ []
+sum_left = row 36 0 1 ∷ row 3 8 1 ∷ row 31 0 1 ∷ row 3 9 1 ∷ row 10 0 1 ∷ row 3 10 1 ∷ row 31 0 2 ∷ row 4 2 2 ∷ row 37 0 2
+    ∷ row 8 0 2 ∷ []
 
 -- left parts with subscripts
 abbrev pub element_left : List Symbol
-element_left = row 36 0 1 ∷ row 3 8 1 ∷ row 34 0 1 ∷ row 4 1 1 ∷ row 35 0 1 ∷ row 31 0 1 ∷ row 3 9 1 ∷ row 34 0 1 ∷ row 3 10 1 ∷ row 34 0 1 ∷ row 4 2 1 ∷ row 35 0 1 ∷ row 35 0 1 ∷ row 31 0 1 ∷ row 3 11 1 ∷ row 31 0 2 ∷ row 3 12 2 ∷ row 34 0 2 ∷ row 4 3 2 ∷ row 35 0 2 ∷ row 10 0 2 ∷ row 4 4 2 ∷ row 12 0 2 ∷ row 4 5 2 ∷ row 37 0 2 ∷ row 8 0 2 ∷ []
+element_left = row 36 0 1 ∷ row 3 8 1 ∷ row 34 0 1 ∷ row 4 1 1 ∷ row 35 0 1 ∷ row 31 0 1 ∷ row 3 9 1 ∷ row 34 0 1 ∷ row 3 10 1
+    ∷ row 34 0 1 ∷ row 4 2 1 ∷ row 35 0 1 ∷ row 35 0 1 ∷ row 31 0 1 ∷ row 3 11 1 ∷ row 31 0 2 ∷ row 3 12 2 ∷ row 34 0 2
+    ∷ row 4 3 2 ∷ row 35 0 2 ∷ row 10 0 2 ∷ row 4 4 2 ∷ row 12 0 2 ∷ row 4 5 2 ∷ row 37 0 2 ∷ row 8 0 2 ∷ []
 
 -- actuals are not empty
 abbrev pub empty_actuals : List Symbol
@@ -95,39 +107,77 @@ string_alone = row 36 0 1 ∷ row 3 8 1 ∷ row 31 0 1 ∷ row 5 0 2 ∷ row 6 9
 
 -- as one of several
 abbrev pub string_actual : List Symbol
-string_actual = row 36 0 1 ∷ row 3 8 1 ∷ row 32 0 1 ∷ row 4 1 1 ∷ row 28 0 1 ∷ row 5 0 1 ∷ row 6 98 1 ∷ row 7 0 1 ∷ row 28 0 1 ∷ row 38 0 1 ∷ row 3 9 1 ∷ row 39 0 1 ∷ row 3 10 1 ∷ row 40 0 1 ∷ row 3 11 1 ∷ row 33 0 1 ∷ row 37 0 1 ∷ row 8 0 1 ∷ []
+string_actual = row 36 0 1 ∷ row 3 8 1 ∷ row 32 0 1 ∷ row 4 1 1 ∷ row 28 0 1 ∷ row 5 0 1 ∷ row 6 98 1 ∷ row 7 0 1 ∷ row 28 0 1
+    ∷ row 38 0 1 ∷ row 3 9 1 ∷ row 39 0 1 ∷ row 3 10 1 ∷ row 40 0 1 ∷ row 3 11 1 ∷ row 33 0 1 ∷ row 37 0 1 ∷ row 8 0 1 ∷ []
 
 -- a bound of an own array is constant
 abbrev pub own_bound : List Symbol
-own_bound = row 36 0 1 ∷ row 55 0 1 ∷ row 47 0 1 ∷ row 49 0 1 ∷ row 3 8 1 ∷ row 34 0 1 ∷ row 4 1 1 ∷ row 29 0 1 ∷ row 3 9 2 ∷ row 35 0 2 ∷ row 30 0 2 ∷ row 37 0 2 ∷ row 8 0 2 ∷ []
+own_bound = row 36 0 1 ∷ row 55 0 1 ∷ row 47 0 1 ∷ row 49 0 1 ∷ row 3 8 1 ∷ row 34 0 1 ∷ row 4 1 1 ∷ row 29 0 1 ∷ row 3 9 2
+    ∷ row 35 0 2 ∷ row 30 0 2 ∷ row 37 0 2 ∷ row 8 0 2 ∷ []
 
 -- with a sign or without
 abbrev pub own_sign : List Symbol
-own_sign = row 36 0 1 ∷ row 55 0 1 ∷ row 48 0 1 ∷ row 49 0 1 ∷ row 3 8 1 ∷ row 34 0 1 ∷ row 11 0 1 ∷ row 4 1 1 ∷ row 29 0 1 ∷ row 10 0 1 ∷ row 4 2 1 ∷ row 28 0 1 ∷ row 4 3 1 ∷ row 29 0 1 ∷ row 4 4 1 ∷ row 35 0 1 ∷ row 28 0 1 ∷ row 3 9 1 ∷ row 28 0 1 ∷ row 3 10 1 ∷ row 34 0 1 ∷ row 4 1 1 ∷ row 29 0 1 ∷ row 4 2 1 ∷ row 35 0 1 ∷ row 30 0 1 ∷ row 37 0 1 ∷ row 8 0 1 ∷ []
+own_sign = row 36 0 1 ∷ row 55 0 1 ∷ row 48 0 1 ∷ row 49 0 1 ∷ row 3 8 1 ∷ row 34 0 1 ∷ row 11 0 1 ∷ row 4 1 1 ∷ row 29 0 1
+    ∷ row 10 0 1 ∷ row 4 2 1 ∷ row 28 0 1 ∷ row 4 3 1 ∷ row 29 0 1 ∷ row 4 4 1 ∷ row 35 0 1 ∷ row 28 0 1 ∷ row 3 9 1 ∷ row 28 0 1
+    ∷ row 3 10 1 ∷ row 34 0 1 ∷ row 4 1 1 ∷ row 29 0 1 ∷ row 4 2 1 ∷ row 35 0 1 ∷ row 30 0 1 ∷ row 37 0 1 ∷ row 8 0 1 ∷ []
 
 -- step and until
 abbrev pub step_without_until : List Symbol
-step_without_until = row 36 0 1 ∷ row 41 0 1 ∷ row 3 8 1 ∷ row 31 0 1 ∷ row 4 1 1 ∷ row 42 0 1 ∷ row 4 2 1 ∷ row 45 0 2 ∷ row 37 0 2 ∷ row 8 0 2 ∷ []
+step_without_until = row 36 0 1 ∷ row 41 0 1 ∷ row 3 8 1 ∷ row 31 0 1 ∷ row 4 1 1 ∷ row 42 0 1 ∷ row 4 2 1 ∷ row 45 0 2
+    ∷ row 37 0 2 ∷ row 8 0 2 ∷ []
 
 -- values stand before specifications
 abbrev pub value_later : List Symbol
-value_later = row 36 0 1 ∷ row 51 0 1 ∷ row 3 8 1 ∷ row 32 0 1 ∷ row 3 9 1 ∷ row 33 0 1 ∷ row 30 0 1 ∷ row 47 0 1 ∷ row 3 9 1 ∷ row 30 0 1 ∷ row 54 0 2 ∷ row 3 9 2 ∷ row 30 0 2 ∷ row 30 0 2 ∷ row 37 0 2 ∷ row 8 0 2 ∷ []
+value_later = row 36 0 1 ∷ row 51 0 1 ∷ row 3 8 1 ∷ row 32 0 1 ∷ row 3 9 1 ∷ row 33 0 1 ∷ row 30 0 1 ∷ row 47 0 1 ∷ row 3 9 1
+    ∷ row 30 0 1 ∷ row 54 0 2 ∷ row 3 9 2 ∷ row 30 0 2 ∷ row 30 0 2 ∷ row 37 0 2 ∷ row 8 0 2 ∷ []
 
 -- an array has a type
 abbrev pub array_no_type : List Symbol
-array_no_type = row 36 0 1 ∷ row 49 0 2 ∷ row 3 8 2 ∷ row 34 0 2 ∷ row 4 1 2 ∷ row 29 0 2 ∷ row 4 2 2 ∷ row 35 0 2 ∷ row 30 0 2 ∷ row 37 0 2 ∷ row 8 0 2 ∷ []
+array_no_type = row 36 0 1 ∷ row 49 0 2 ∷ row 3 8 2 ∷ row 34 0 2 ∷ row 4 1 2 ∷ row 29 0 2 ∷ row 4 2 2 ∷ row 35 0 2 ∷ row 30 0 2
+    ∷ row 37 0 2 ∷ row 8 0 2 ∷ []
 
 -- each specification
 abbrev pub spec_kinds : List Symbol
-spec_kinds = row 36 0 1 ∷ row 47 0 1 ∷ row 51 0 1 ∷ row 3 8 1 ∷ row 32 0 1 ∷ row 3 9 1 ∷ row 28 0 1 ∷ row 3 10 1 ∷ row 28 0 1 ∷ row 3 11 1 ∷ row 28 0 1 ∷ row 3 12 1 ∷ row 28 0 1 ∷ row 3 13 1 ∷ row 28 0 1 ∷ row 3 14 1 ∷ row 28 0 1 ∷ row 3 15 1 ∷ row 33 0 1 ∷ row 30 0 1 ∷ row 54 0 1 ∷ row 3 9 1 ∷ row 30 0 1 ∷ row 47 0 1 ∷ row 3 9 1 ∷ row 30 0 1 ∷ row 48 0 1 ∷ row 49 0 1 ∷ row 3 10 1 ∷ row 30 0 1 ∷ row 53 0 1 ∷ row 3 11 1 ∷ row 30 0 1 ∷ row 50 0 1 ∷ row 3 12 1 ∷ row 30 0 1 ∷ row 52 0 1 ∷ row 3 13 1 ∷ row 30 0 1 ∷ row 51 0 1 ∷ row 3 14 1 ∷ row 30 0 1 ∷ row 48 0 1 ∷ row 51 0 1 ∷ row 3 15 1 ∷ row 30 0 1 ∷ row 30 0 1 ∷ row 37 0 1 ∷ row 8 0 1 ∷ []
+spec_kinds = row 36 0 1 ∷ row 47 0 1 ∷ row 51 0 1 ∷ row 3 8 1 ∷ row 32 0 1 ∷ row 3 9 1 ∷ row 28 0 1 ∷ row 3 10 1 ∷ row 28 0 1
+    ∷ row 3 11 1 ∷ row 28 0 1 ∷ row 3 12 1 ∷ row 28 0 1 ∷ row 3 13 1 ∷ row 28 0 1 ∷ row 3 14 1 ∷ row 28 0 1 ∷ row 3 15 1
+    ∷ row 33 0 1 ∷ row 30 0 1 ∷ row 54 0 1 ∷ row 3 9 1 ∷ row 30 0 1 ∷ row 47 0 1 ∷ row 3 9 1 ∷ row 30 0 1 ∷ row 48 0 1
+    ∷ row 49 0 1 ∷ row 3 10 1 ∷ row 30 0 1 ∷ row 53 0 1 ∷ row 3 11 1 ∷ row 30 0 1 ∷ row 50 0 1 ∷ row 3 12 1 ∷ row 30 0 1
+    ∷ row 52 0 1 ∷ row 3 13 1 ∷ row 30 0 1 ∷ row 51 0 1 ∷ row 3 14 1 ∷ row 30 0 1 ∷ row 48 0 1 ∷ row 51 0 1 ∷ row 3 15 1
+    ∷ row 30 0 1 ∷ row 30 0 1 ∷ row 37 0 1 ∷ row 8 0 1 ∷ []
 
 -- thirty pairs in a bound list
 abbrev pub thirty_pairs : List Symbol
-thirty_pairs = row 36 0 1 ∷ row 55 0 1 ∷ row 47 0 1 ∷ row 49 0 1 ∷ row 3 8 1 ∷ row 34 0 1 ∷ row 4 1 1 ∷ row 29 0 1 ∷ row 4 2 1 ∷ row 28 0 1 ∷ row 4 1 1 ∷ row 29 0 1 ∷ row 4 2 1 ∷ row 28 0 1 ∷ row 4 1 1 ∷ row 29 0 1 ∷ row 4 2 1 ∷ row 28 0 1 ∷ row 4 1 1 ∷ row 29 0 1 ∷ row 4 2 1 ∷ row 28 0 1 ∷ row 4 1 1 ∷ row 29 0 1 ∷ row 4 2 1 ∷ row 28 0 1 ∷ row 4 1 1 ∷ row 29 0 1 ∷ row 4 2 1 ∷ row 28 0 1 ∷ row 4 1 1 ∷ row 29 0 1 ∷ row 4 2 1 ∷ row 28 0 1 ∷ row 4 1 1 ∷ row 29 0 1 ∷ row 4 2 1 ∷ row 28 0 1 ∷ row 4 1 1 ∷ row 29 0 1 ∷ row 4 2 1 ∷ row 28 0 1 ∷ row 4 1 1 ∷ row 29 0 1 ∷ row 4 2 1 ∷ row 28 0 1 ∷ row 4 1 1 ∷ row 29 0 1 ∷ row 4 2 1 ∷ row 28 0 1 ∷ row 4 1 1 ∷ row 29 0 1 ∷ row 4 2 1 ∷ row 28 0 1 ∷ row 4 1 1 ∷ row 29 0 1 ∷ row 4 2 1 ∷ row 28 0 1 ∷ row 4 1 1 ∷ row 29 0 1 ∷ row 4 2 1 ∷ row 28 0 1 ∷ row 4 1 1 ∷ row 29 0 1 ∷ row 4 2 1 ∷ row 28 0 1 ∷ row 4 1 1 ∷ row 29 0 1 ∷ row 4 2 1 ∷ row 28 0 1 ∷ row 4 1 1 ∷ row 29 0 1 ∷ row 4 2 1 ∷ row 28 0 1 ∷ row 4 1 1 ∷ row 29 0 1 ∷ row 4 2 1 ∷ row 28 0 1 ∷ row 4 1 1 ∷ row 29 0 1 ∷ row 4 2 1 ∷ row 28 0 1 ∷ row 4 1 1 ∷ row 29 0 1 ∷ row 4 2 1 ∷ row 28 0 1 ∷ row 4 1 1 ∷ row 29 0 1 ∷ row 4 2 1 ∷ row 28 0 1 ∷ row 4 1 1 ∷ row 29 0 1 ∷ row 4 2 1 ∷ row 28 0 1 ∷ row 4 1 1 ∷ row 29 0 1 ∷ row 4 2 1 ∷ row 28 0 1 ∷ row 4 1 1 ∷ row 29 0 1 ∷ row 4 2 1 ∷ row 28 0 1 ∷ row 4 1 1 ∷ row 29 0 1 ∷ row 4 2 1 ∷ row 28 0 1 ∷ row 4 1 1 ∷ row 29 0 1 ∷ row 4 2 1 ∷ row 28 0 1 ∷ row 4 1 1 ∷ row 29 0 1 ∷ row 4 2 1 ∷ row 28 0 1 ∷ row 4 1 1 ∷ row 29 0 1 ∷ row 4 2 1 ∷ row 28 0 1 ∷ row 4 1 1 ∷ row 29 0 1 ∷ row 4 2 1 ∷ row 28 0 1 ∷ row 4 1 1 ∷ row 29 0 1 ∷ row 4 2 1 ∷ row 35 0 1 ∷ row 30 0 1 ∷ row 37 0 1 ∷ row 8 0 1 ∷ []
+thirty_pairs = row 36 0 1 ∷ row 55 0 1 ∷ row 47 0 1 ∷ row 49 0 1 ∷ row 3 8 1 ∷ row 34 0 1 ∷ row 4 1 1 ∷ row 29 0 1 ∷ row 4 2 1
+    ∷ row 28 0 1 ∷ row 4 1 1 ∷ row 29 0 1 ∷ row 4 2 1 ∷ row 28 0 1 ∷ row 4 1 1 ∷ row 29 0 1 ∷ row 4 2 1 ∷ row 28 0 1 ∷ row 4 1 1
+    ∷ row 29 0 1 ∷ row 4 2 1 ∷ row 28 0 1 ∷ row 4 1 1 ∷ row 29 0 1 ∷ row 4 2 1 ∷ row 28 0 1 ∷ row 4 1 1 ∷ row 29 0 1 ∷ row 4 2 1
+    ∷ row 28 0 1 ∷ row 4 1 1 ∷ row 29 0 1 ∷ row 4 2 1 ∷ row 28 0 1 ∷ row 4 1 1 ∷ row 29 0 1 ∷ row 4 2 1 ∷ row 28 0 1 ∷ row 4 1 1
+    ∷ row 29 0 1 ∷ row 4 2 1 ∷ row 28 0 1 ∷ row 4 1 1 ∷ row 29 0 1 ∷ row 4 2 1 ∷ row 28 0 1 ∷ row 4 1 1 ∷ row 29 0 1 ∷ row 4 2 1
+    ∷ row 28 0 1 ∷ row 4 1 1 ∷ row 29 0 1 ∷ row 4 2 1 ∷ row 28 0 1 ∷ row 4 1 1 ∷ row 29 0 1 ∷ row 4 2 1 ∷ row 28 0 1 ∷ row 4 1 1
+    ∷ row 29 0 1 ∷ row 4 2 1 ∷ row 28 0 1 ∷ row 4 1 1 ∷ row 29 0 1 ∷ row 4 2 1 ∷ row 28 0 1 ∷ row 4 1 1 ∷ row 29 0 1 ∷ row 4 2 1
+    ∷ row 28 0 1 ∷ row 4 1 1 ∷ row 29 0 1 ∷ row 4 2 1 ∷ row 28 0 1 ∷ row 4 1 1 ∷ row 29 0 1 ∷ row 4 2 1 ∷ row 28 0 1 ∷ row 4 1 1
+    ∷ row 29 0 1 ∷ row 4 2 1 ∷ row 28 0 1 ∷ row 4 1 1 ∷ row 29 0 1 ∷ row 4 2 1 ∷ row 28 0 1 ∷ row 4 1 1 ∷ row 29 0 1 ∷ row 4 2 1
+    ∷ row 28 0 1 ∷ row 4 1 1 ∷ row 29 0 1 ∷ row 4 2 1 ∷ row 28 0 1 ∷ row 4 1 1 ∷ row 29 0 1 ∷ row 4 2 1 ∷ row 28 0 1 ∷ row 4 1 1
+    ∷ row 29 0 1 ∷ row 4 2 1 ∷ row 28 0 1 ∷ row 4 1 1 ∷ row 29 0 1 ∷ row 4 2 1 ∷ row 28 0 1 ∷ row 4 1 1 ∷ row 29 0 1 ∷ row 4 2 1
+    ∷ row 28 0 1 ∷ row 4 1 1 ∷ row 29 0 1 ∷ row 4 2 1 ∷ row 28 0 1 ∷ row 4 1 1 ∷ row 29 0 1 ∷ row 4 2 1 ∷ row 28 0 1 ∷ row 4 1 1
+    ∷ row 29 0 1 ∷ row 4 2 1 ∷ row 28 0 1 ∷ row 4 1 1 ∷ row 29 0 1 ∷ row 4 2 1 ∷ row 35 0 1 ∷ row 30 0 1 ∷ row 37 0 1 ∷ row 8 0 1
+    ∷ []
 
 -- and not one more
 abbrev pub more_pairs : List Symbol
-more_pairs = row 36 0 1 ∷ row 55 0 1 ∷ row 47 0 1 ∷ row 49 0 1 ∷ row 3 8 1 ∷ row 34 0 1 ∷ row 4 1 1 ∷ row 29 0 1 ∷ row 4 2 1 ∷ row 28 0 1 ∷ row 4 1 1 ∷ row 29 0 1 ∷ row 4 2 1 ∷ row 28 0 1 ∷ row 4 1 1 ∷ row 29 0 1 ∷ row 4 2 1 ∷ row 28 0 1 ∷ row 4 1 1 ∷ row 29 0 1 ∷ row 4 2 1 ∷ row 28 0 1 ∷ row 4 1 1 ∷ row 29 0 1 ∷ row 4 2 1 ∷ row 28 0 1 ∷ row 4 1 1 ∷ row 29 0 1 ∷ row 4 2 1 ∷ row 28 0 1 ∷ row 4 1 1 ∷ row 29 0 1 ∷ row 4 2 1 ∷ row 28 0 1 ∷ row 4 1 1 ∷ row 29 0 1 ∷ row 4 2 1 ∷ row 28 0 1 ∷ row 4 1 1 ∷ row 29 0 1 ∷ row 4 2 1 ∷ row 28 0 1 ∷ row 4 1 1 ∷ row 29 0 1 ∷ row 4 2 1 ∷ row 28 0 1 ∷ row 4 1 1 ∷ row 29 0 1 ∷ row 4 2 1 ∷ row 28 0 1 ∷ row 4 1 1 ∷ row 29 0 1 ∷ row 4 2 1 ∷ row 28 0 1 ∷ row 4 1 1 ∷ row 29 0 1 ∷ row 4 2 1 ∷ row 28 0 1 ∷ row 4 1 1 ∷ row 29 0 1 ∷ row 4 2 1 ∷ row 28 0 1 ∷ row 4 1 1 ∷ row 29 0 1 ∷ row 4 2 1 ∷ row 28 0 1 ∷ row 4 1 1 ∷ row 29 0 1 ∷ row 4 2 1 ∷ row 28 0 1 ∷ row 4 1 1 ∷ row 29 0 1 ∷ row 4 2 1 ∷ row 28 0 1 ∷ row 4 1 1 ∷ row 29 0 1 ∷ row 4 2 1 ∷ row 28 0 1 ∷ row 4 1 1 ∷ row 29 0 1 ∷ row 4 2 1 ∷ row 28 0 1 ∷ row 4 1 1 ∷ row 29 0 1 ∷ row 4 2 1 ∷ row 28 0 1 ∷ row 4 1 1 ∷ row 29 0 1 ∷ row 4 2 1 ∷ row 28 0 1 ∷ row 4 1 1 ∷ row 29 0 1 ∷ row 4 2 1 ∷ row 28 0 1 ∷ row 4 1 1 ∷ row 29 0 1 ∷ row 4 2 1 ∷ row 28 0 1 ∷ row 4 1 1 ∷ row 29 0 1 ∷ row 4 2 1 ∷ row 28 0 1 ∷ row 4 1 1 ∷ row 29 0 1 ∷ row 4 2 1 ∷ row 28 0 1 ∷ row 4 1 1 ∷ row 29 0 1 ∷ row 4 2 1 ∷ row 28 0 1 ∷ row 4 1 1 ∷ row 29 0 1 ∷ row 4 2 1 ∷ row 28 0 1 ∷ row 4 1 1 ∷ row 29 0 1 ∷ row 4 2 1 ∷ row 28 0 1 ∷ row 4 1 1 ∷ row 29 0 1 ∷ row 4 2 1 ∷ row 28 0 1 ∷ row 4 1 1 ∷ row 29 0 1 ∷ row 4 2 1 ∷ row 28 0 2 ∷ row 4 1 2 ∷ row 29 0 2 ∷ row 4 2 2 ∷ row 35 0 2 ∷ row 30 0 2 ∷ row 37 0 2 ∷ row 8 0 2 ∷ []
+more_pairs = row 36 0 1 ∷ row 55 0 1 ∷ row 47 0 1 ∷ row 49 0 1 ∷ row 3 8 1 ∷ row 34 0 1 ∷ row 4 1 1 ∷ row 29 0 1 ∷ row 4 2 1
+    ∷ row 28 0 1 ∷ row 4 1 1 ∷ row 29 0 1 ∷ row 4 2 1 ∷ row 28 0 1 ∷ row 4 1 1 ∷ row 29 0 1 ∷ row 4 2 1 ∷ row 28 0 1 ∷ row 4 1 1
+    ∷ row 29 0 1 ∷ row 4 2 1 ∷ row 28 0 1 ∷ row 4 1 1 ∷ row 29 0 1 ∷ row 4 2 1 ∷ row 28 0 1 ∷ row 4 1 1 ∷ row 29 0 1 ∷ row 4 2 1
+    ∷ row 28 0 1 ∷ row 4 1 1 ∷ row 29 0 1 ∷ row 4 2 1 ∷ row 28 0 1 ∷ row 4 1 1 ∷ row 29 0 1 ∷ row 4 2 1 ∷ row 28 0 1 ∷ row 4 1 1
+    ∷ row 29 0 1 ∷ row 4 2 1 ∷ row 28 0 1 ∷ row 4 1 1 ∷ row 29 0 1 ∷ row 4 2 1 ∷ row 28 0 1 ∷ row 4 1 1 ∷ row 29 0 1 ∷ row 4 2 1
+    ∷ row 28 0 1 ∷ row 4 1 1 ∷ row 29 0 1 ∷ row 4 2 1 ∷ row 28 0 1 ∷ row 4 1 1 ∷ row 29 0 1 ∷ row 4 2 1 ∷ row 28 0 1 ∷ row 4 1 1
+    ∷ row 29 0 1 ∷ row 4 2 1 ∷ row 28 0 1 ∷ row 4 1 1 ∷ row 29 0 1 ∷ row 4 2 1 ∷ row 28 0 1 ∷ row 4 1 1 ∷ row 29 0 1 ∷ row 4 2 1
+    ∷ row 28 0 1 ∷ row 4 1 1 ∷ row 29 0 1 ∷ row 4 2 1 ∷ row 28 0 1 ∷ row 4 1 1 ∷ row 29 0 1 ∷ row 4 2 1 ∷ row 28 0 1 ∷ row 4 1 1
+    ∷ row 29 0 1 ∷ row 4 2 1 ∷ row 28 0 1 ∷ row 4 1 1 ∷ row 29 0 1 ∷ row 4 2 1 ∷ row 28 0 1 ∷ row 4 1 1 ∷ row 29 0 1 ∷ row 4 2 1
+    ∷ row 28 0 1 ∷ row 4 1 1 ∷ row 29 0 1 ∷ row 4 2 1 ∷ row 28 0 1 ∷ row 4 1 1 ∷ row 29 0 1 ∷ row 4 2 1 ∷ row 28 0 1 ∷ row 4 1 1
+    ∷ row 29 0 1 ∷ row 4 2 1 ∷ row 28 0 1 ∷ row 4 1 1 ∷ row 29 0 1 ∷ row 4 2 1 ∷ row 28 0 1 ∷ row 4 1 1 ∷ row 29 0 1 ∷ row 4 2 1
+    ∷ row 28 0 1 ∷ row 4 1 1 ∷ row 29 0 1 ∷ row 4 2 1 ∷ row 28 0 1 ∷ row 4 1 1 ∷ row 29 0 1 ∷ row 4 2 1 ∷ row 28 0 1 ∷ row 4 1 1
+    ∷ row 29 0 1 ∷ row 4 2 1 ∷ row 28 0 1 ∷ row 4 1 1 ∷ row 29 0 1 ∷ row 4 2 1 ∷ row 28 0 2 ∷ row 4 1 2 ∷ row 29 0 2 ∷ row 4 2 2
+    ∷ row 35 0 2 ∷ row 30 0 2 ∷ row 37 0 2 ∷ row 8 0 2 ∷ []
 
 pub record AreStructured : Type 0 where
   pub no_program_fault : structure_fault no_program ≡ Some 1

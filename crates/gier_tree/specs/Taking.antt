@@ -2,9 +2,41 @@
 -- below it meets the same sign; or the sign is taken, and items are pushed in its place, of whose trees its own is made.
 use Rattle.std.specs.Prelude.{◌==◌, ℕ, zero, suc, Bool, true, false, List, [], ◌∷◌, ◌++◌, None, Some}
 use Rattle.gier_symbol.specs.Tags.{number_of}
-use Rattle.gier_tree.specs.Signs.{Sign, SName, SNumber, SByte, SStringBegin, SStringEnd, STextEnd, SAdding, SMultiplying, SPower, SComparing, SNot, SAnd, SOr, SImpl, SEquiv, SLogical, SComma, SColon, SSemicolon, SBecomes, SLeftParenthesis, SRightParenthesis, SLeftBracket, SRightBracket, SBegin, SEnd, SIf, SThen, SElse, SFor, SStep, SUntil, SWhile, SDo, SGoto, SType, SArray, SSwitch, SProcedure, SString, SLabel, SValue, SOwn, sign_tag}
-use Rattle.gier_tree.specs.Trees.{Name, Expr, OneSimple, IfExpr, Simple, Primary, Numeral, Logical, Bracketed, OneCall, OneElement, Call, Alone, WithActuals, Element, Subscripted, Actual, OneExpr, AString, Actuals, NoActuals, MoreActuals, Exprs, NoExprs, MoreExprs, NextName, MkNames, ValueType, TypeWord, MkPair, MkSegment, Unsigned, WithSign, MkFixedPair, NoFurther, MoreFurther, FurtherPairs, most_further, MkFixed, NoFormals, FormalList, NoValues, ValueList, Specifier, ValueSpec, ArraySpec, LabelSpec, SwitchSpec, StringSpec, ProcedureSpec, FunctionSpec, Specification, MkHeading, LabelPlace, LeftSide, OneName, LeftElement, Turns, OneValue, StepUntil, WhileTrue, Declaration, DeclareType, DeclareOwn, DeclareArrays, DeclareOwnArrays, DeclareSwitch, DeclareProcedure, Declarations, NoDeclarations, MoreDeclarations, Group, MkBlock, MkCompound, Statements, NoStatements, MoreStatements, Statement, OneUnconditional, OneConditional, OneLoop, Unconditional, MkUnconditional, Basic, OneGroup, Assign, Jump, CallStatement, Dummy, Conditional, IfThen, IfElse, IfLoop, Loop, MkLoop, Program, MkProgram}
-use Rattle.gier_tree.specs.Wanted.{Ended, NoNot, ANot, NoSign, ASign, MayBeRelation, NoRelation, ARelation, Part, NoPart, SomeSubscripts, SomeActuals, Powers, Products, Sums, Ands, Ors, Impls, Equivs, Tails, Right, AfterElement, ElementIsLeft, ElementIsOperand, AfterRight, NameIsLeft, NameIsOperand, NameHasSubscripts, NameHasActuals, AfterName, NameLabels, NameAssigned, ElementAssigned, NameCalled, NameAlone, MayBeElse, NoElse, AnElse, Branch, BranchLoop, BranchUnconditional, AfterBranchName, BranchLabels, BranchAssigned, BranchElement, BranchCalled, BranchAlone, MayBeStep, NoStep, AStep, AWhile, AfterType, TypeNames, TypeArrays, TypeProcedure, AfterOwnType, OwnNames, OwnArrays, MayBeWord, NoWord, ArrayWord, ProcedureWord, Item, Want, WantName, WantNumber, WantExpr, WantSimple, MayNot, MaySign, WantPrimary, MayPower, MayTimes, MaySum, MayRelation, MayAnd, MayOr, MayImpl, MayEquiv, MayPart, WantSubscripts, WantActual, WantActuals, WantBytes, WantRight, WantAfterRight, WantAfterElement, MayNames, MayExprs, WantType, WantAfterType, WantAfterOwnType, WantSegment, WantPairs, MaySegments, WantConstant, WantFixed, WantFurther, MayFixed, MayFormals, MayValues, MaySpecifications, MayWord, MayDeclarations, WantStatement, WantAfterName, WantBranch, WantAfterBranchName, MayElse, MayStep, WantTurns, WantStatements, WantProgram, TreeOf, Trees, factor_items, term_items, arithmetic_items, negation_items, tail_items, shut_factor, shut_term, shut_arithmetic, shut_negation, shut_conjunction, shut_disjunction, shut_implication, tails_of, simple_of, simple_from}
+use Rattle.gier_tree.specs.Signs.{Sign, SName, SNumber, SByte, SStringBegin, SStringEnd, STextEnd, SAdding, SMultiplying, SPower}
+use Rattle.gier_tree.specs.Signs.{SComparing, SNot, SAnd, SOr, SImpl, SEquiv, SLogical, SComma, SColon, SSemicolon, SBecomes}
+use Rattle.gier_tree.specs.Signs.{SLeftParenthesis, SRightParenthesis, SLeftBracket, SRightBracket, SBegin, SEnd, SIf, SThen}
+use Rattle.gier_tree.specs.Signs.{SElse, SFor, SStep, SUntil, SWhile, SDo, SGoto, SType, SArray, SSwitch, SProcedure, SString}
+use Rattle.gier_tree.specs.Signs.{SLabel, SValue, SOwn, sign_tag}
+use Rattle.gier_tree.specs.Trees.{Name, Expr, OneSimple, IfExpr, Simple, Primary, Numeral, Logical, Bracketed, OneCall}
+use Rattle.gier_tree.specs.Trees.{OneElement, Call, Alone, WithActuals, Element, Subscripted, Actual, OneExpr, AString, Actuals}
+use Rattle.gier_tree.specs.Trees.{NoActuals, MoreActuals, Exprs, NoExprs, MoreExprs, NextName, MkNames, ValueType, TypeWord}
+use Rattle.gier_tree.specs.Trees.{MkPair, MkSegment, Unsigned, WithSign, MkFixedPair, NoFurther, MoreFurther, FurtherPairs}
+use Rattle.gier_tree.specs.Trees.{most_further, MkFixed, NoFormals, FormalList, NoValues, ValueList, Specifier, ValueSpec}
+use Rattle.gier_tree.specs.Trees.{ArraySpec, LabelSpec, SwitchSpec, StringSpec, ProcedureSpec, FunctionSpec, Specification}
+use Rattle.gier_tree.specs.Trees.{MkHeading, LabelPlace, LeftSide, OneName, LeftElement, Turns, OneValue, StepUntil, WhileTrue}
+use Rattle.gier_tree.specs.Trees.{Declaration, DeclareType, DeclareOwn, DeclareArrays, DeclareOwnArrays, DeclareSwitch}
+use Rattle.gier_tree.specs.Trees.{DeclareProcedure, Declarations, NoDeclarations, MoreDeclarations, Group, MkBlock, MkCompound}
+use Rattle.gier_tree.specs.Trees.{Statements, NoStatements, MoreStatements, Statement, OneUnconditional, OneConditional, OneLoop}
+use Rattle.gier_tree.specs.Trees.{Unconditional, MkUnconditional, Basic, OneGroup, Assign, Jump, CallStatement, Dummy}
+use Rattle.gier_tree.specs.Trees.{Conditional, IfThen, IfElse, IfLoop, Loop, MkLoop, Program, MkProgram}
+use Rattle.gier_tree.specs.Wanted.{Ended, NoNot, ANot, NoSign, ASign, MayBeRelation, NoRelation, ARelation, Part, NoPart}
+use Rattle.gier_tree.specs.Wanted.{SomeSubscripts, SomeActuals, Powers, Products, Sums, Ands, Ors, Impls, Equivs, Tails, Right}
+use Rattle.gier_tree.specs.Wanted.{AfterElement, ElementIsLeft, ElementIsOperand, AfterRight, NameIsLeft, NameIsOperand}
+use Rattle.gier_tree.specs.Wanted.{NameHasSubscripts, NameHasActuals, AfterName, NameLabels, NameAssigned, ElementAssigned}
+use Rattle.gier_tree.specs.Wanted.{NameCalled, NameAlone, MayBeElse, NoElse, AnElse, Branch, BranchLoop, BranchUnconditional}
+use Rattle.gier_tree.specs.Wanted.{AfterBranchName, BranchLabels, BranchAssigned, BranchElement, BranchCalled, BranchAlone}
+use Rattle.gier_tree.specs.Wanted.{MayBeStep, NoStep, AStep, AWhile, AfterType, TypeNames, TypeArrays, TypeProcedure}
+use Rattle.gier_tree.specs.Wanted.{AfterOwnType, OwnNames, OwnArrays, MayBeWord, NoWord, ArrayWord, ProcedureWord, Item, Want}
+use Rattle.gier_tree.specs.Wanted.{WantName, WantNumber, WantExpr, WantSimple, MayNot, MaySign, WantPrimary, MayPower, MayTimes}
+use Rattle.gier_tree.specs.Wanted.{MaySum, MayRelation, MayAnd, MayOr, MayImpl, MayEquiv, MayPart, WantSubscripts, WantActual}
+use Rattle.gier_tree.specs.Wanted.{WantActuals, WantBytes, WantRight, WantAfterRight, WantAfterElement, MayNames, MayExprs}
+use Rattle.gier_tree.specs.Wanted.{WantType, WantAfterType, WantAfterOwnType, WantSegment, WantPairs, MaySegments, WantConstant}
+use Rattle.gier_tree.specs.Wanted.{WantFixed, WantFurther, MayFixed, MayFormals, MayValues, MaySpecifications, MayWord}
+use Rattle.gier_tree.specs.Wanted.{MayDeclarations, WantStatement, WantAfterName, WantBranch, WantAfterBranchName, MayElse}
+use Rattle.gier_tree.specs.Wanted.{MayStep, WantTurns, WantStatements, WantProgram, TreeOf, Trees, factor_items, term_items}
+use Rattle.gier_tree.specs.Wanted.{arithmetic_items, negation_items, tail_items, shut_factor, shut_term, shut_arithmetic}
+use Rattle.gier_tree.specs.Wanted.{shut_negation, shut_conjunction, shut_disjunction, shut_implication, tails_of, simple_of}
+use Rattle.gier_tree.specs.Wanted.{simple_from}
 
 pub data Act (T : Type 0) : Type 0 where
   Refuse : Act T
@@ -36,27 +68,121 @@ simple_act f (SAdding o) l = Push (WantPrimary ∷ tail_items) (λ ts. f (simple
 simple_act f (SNumber v) l = Push tail_items (λ ts. f (simple_of NoNot NoSign (Numeral v l) ts))
 simple_act f (SLogical b) l = Push tail_items (λ ts. f (simple_of NoNot NoSign (Logical b l) ts))
 simple_act f (SName x) l = Push (MayPart ∷ tail_items) (λ ts. f (simple_of NoNot NoSign (primary_of (name_at x l) ts.0) ts.1))
-simple_act f SLeftParenthesis l = Push (WantExpr ∷ Want SRightParenthesis ∷ tail_items) (λ ts. f (simple_of NoNot NoSign (Bracketed l ts.0 ts.1.0) ts.1.1))
+simple_act f SLeftParenthesis l =
+    Push (WantExpr ∷ Want SRightParenthesis ∷ tail_items) (λ ts. f (simple_of NoNot NoSign (Bracketed l ts.0 ts.1.0) ts.1.1))
 simple_act f _ l = Refuse
 
 -- an expression that begins here
 abbrev pub expr_act : {T : Type 0} → (Expr → T) → Sign → (line : ℕ) → Act T
-expr_act f SIf l = Push (WantExpr ∷ Want SThen ∷ WantSimple ∷ Want SElse ∷ WantExpr ∷ []) (λ ts. f (IfExpr l ts.0 ts.1.0 ts.1.1.0 ts.1.1.1.0 ts.1.1.1.1.0))
+expr_act f SIf l = Push (WantExpr ∷ Want SThen ∷ WantSimple ∷ Want SElse ∷ WantExpr ∷ [])
+    (λ ts. f (IfExpr l ts.0 ts.1.0 ts.1.1.0 ts.1.1.1.0 ts.1.1.1.1.0))
 expr_act f s l = simple_act (λ t. f (OneSimple t)) s l
 
 abbrev pub tails_from : Powers → Products → Sums → MayBeRelation → Ands → Ors → Impls → Equivs → Tails
-tails_from pw pr sm r an os im eq = record { powers = pw; products = pr; sums = sm; relation = r; ands = an; ors = os; impls = im; equivs = eq }
+tails_from pw pr sm r an os im eq =
+    record { powers = pw; products = pr; sums = sm; relation = r; ands = an; ors = os; impls = im; equivs = eq }
 
 -- what stands behind a first operand, by the first operator there
 abbrev pub tails_act : {T : Type 0} → (Tails → T) → Sign → (line : ℕ) → Act T
 tails_act f SPower l = Push (WantPrimary ∷ tail_items) (λ ts. f (tails_of (record { line = l; operand = ts.0 } ∷ ts.1.0, ts.1.1)))
-tails_act f (SMultiplying o) l = Push (WantPrimary ∷ tail_items) (λ ts. let t = shut_factor ts in f (tails_of ([], (record { operator = o; line = l; operand = t.0 } ∷ t.1.0, t.1.1))))
-tails_act f (SAdding o) l = Push (WantPrimary ∷ tail_items) (λ ts. let t = shut_term ts in f (tails_of ([], ([], (record { operator = o; line = l; operand = t.0 } ∷ t.1.0, t.1.1)))))
-tails_act f (SComparing o) l = Push (MaySign ∷ WantPrimary ∷ MayPower ∷ MayTimes ∷ MaySum ∷ MayAnd ∷ MayOr ∷ MayImpl ∷ MayEquiv ∷ []) (λ ts. let t = shut_arithmetic ts in f (tails_of ([], ([], ([], (ARelation o l t.0, t.1))))))
-tails_act f SAnd l = Push (negation_items ++ MayAnd ∷ MayOr ∷ MayImpl ∷ MayEquiv ∷ []) (λ ts. let t = shut_negation ts in f (tails_of ([], ([], ([], (NoRelation, (record { line = l; operand = t.0 } ∷ t.1.0, t.1.1)))))))
-tails_act f SOr l = Push (negation_items ++ MayAnd ∷ MayOr ∷ MayImpl ∷ MayEquiv ∷ []) (λ ts. let t = shut_conjunction ts in f (tails_of ([], ([], ([], (NoRelation, ([], (record { line = l; operand = t.0 } ∷ t.1.0, t.1.1))))))))
-tails_act f SImpl l = Push (negation_items ++ MayAnd ∷ MayOr ∷ MayImpl ∷ MayEquiv ∷ []) (λ ts. let t = shut_disjunction ts in f (tails_of ([], ([], ([], (NoRelation, ([], ([], (record { line = l; operand = t.0 } ∷ t.1.0, t.1.1)))))))))
-tails_act f SEquiv l = Push (negation_items ++ MayAnd ∷ MayOr ∷ MayImpl ∷ MayEquiv ∷ []) (λ ts. let t = shut_implication ts in f (tails_of ([], ([], ([], (NoRelation, ([], ([], ([], (record { line = l; operand = t.0 } ∷ t.1.0, tt))))))))))
+tails_act f (SMultiplying o) l =
+    Push (WantPrimary ∷ tail_items)
+    (λ ts. let t = shut_factor ts in f (tails_of ([], (record { operator = o; line = l; operand = t.0 } ∷ t.1.0, t.1.1))))
+tails_act f (SAdding o) l =
+    Push (WantPrimary ∷ tail_items)
+    (λ ts. let t = shut_term ts in f (tails_of ([], ([], (record { operator = o; line = l; operand = t.0 } ∷ t.1.0, t.1.1)))))
+tails_act f (SComparing o) l = Push (MaySign ∷ WantPrimary ∷ MayPower ∷ MayTimes ∷ MaySum ∷ MayAnd ∷ MayOr ∷ MayImpl ∷ MayEquiv
+    ∷ []) (λ ts. let t = shut_arithmetic ts in f (tails_of ([], ([], ([], (ARelation o l t.0, t.1))))))
+tails_act f SAnd l = Push (negation_items ++ MayAnd ∷ MayOr ∷ MayImpl ∷ MayEquiv ∷ [])
+    (λ ts. let t = shut_negation ts in f (tails_of (
+      [],
+      (
+        [],
+        (
+          [],
+          (
+            NoRelation,
+            (
+              record { line = l; operand = t.0 }
+                  ∷ t.1.0,
+              t.1.1,
+            ),
+          ),
+        ),
+      ),
+    )))
+tails_act f SOr l = Push (negation_items ++ MayAnd ∷ MayOr ∷ MayImpl ∷ MayEquiv ∷ [])
+    (λ ts. let t = shut_conjunction ts in f (tails_of (
+      [],
+      (
+        [],
+        (
+          [],
+          (
+            NoRelation,
+            (
+              [],
+              (
+                record { line = l; operand = t.0 }
+                    ∷ t.1.0,
+                t.1.1,
+              ),
+            ),
+          ),
+        ),
+      ),
+    )))
+tails_act f SImpl l = Push (negation_items ++ MayAnd ∷ MayOr ∷ MayImpl ∷ MayEquiv ∷ [])
+    (λ ts. let t = shut_disjunction ts in f (tails_of (
+      [],
+      (
+        [],
+        (
+          [],
+          (
+            NoRelation,
+            (
+              [],
+              (
+                [],
+                (
+                  record { line = l; operand = t.0 }
+                      ∷ t.1.0,
+                  t.1.1,
+                ),
+              ),
+            ),
+          ),
+        ),
+      ),
+    )))
+tails_act f SEquiv l = Push (negation_items ++ MayAnd ∷ MayOr ∷ MayImpl ∷ MayEquiv ∷ [])
+    (λ ts. let t = shut_implication ts in f (tails_of (
+      [],
+      (
+        [],
+        (
+          [],
+          (
+            NoRelation,
+            (
+              [],
+              (
+                [],
+                (
+                  [],
+                  (
+                    record
+                        { line = l; operand = t.0 } ∷ t.1.0,
+                    tt,
+                  ),
+                ),
+              ),
+            ),
+          ),
+        ),
+      ),
+    )))
 tails_act f _ l = Pass (f (tails_from [] [] [] NoRelation [] [] [] []))
 
 -- behind `:=`
@@ -168,7 +294,8 @@ abbrev pub specification_of : Specifier → Name → List NextName → (semicolo
 specification_of s x ns l = record { specifier = s; names = MkNames x ns; semicolon = l }
 
 abbrev pub word_specification : Specifier → Act (List Specification)
-word_specification s = Push (WantName ∷ MayNames ∷ Want SSemicolon ∷ MaySpecifications ∷ []) (λ ts. specification_of s ts.0 ts.1.0 ts.1.1.0 ∷ ts.1.1.1.0)
+word_specification s = Push (WantName ∷ MayNames ∷ Want SSemicolon ∷ MaySpecifications ∷ [])
+    (λ ts. specification_of s ts.0 ts.1.0 ts.1.1.0 ∷ ts.1.1.1.0)
 
 abbrev pub segment_items : List Item
 segment_items = MayNames ∷ Want SLeftBracket ∷ WantExpr ∷ Want SColon ∷ WantExpr ∷ WantPairs ∷ []
@@ -183,7 +310,8 @@ no_further (suc n) = NoFurther
 -- a further pair, where one more is allowed
 abbrev pub further_act : (n : ℕ) → (comma : ℕ) → Act (Ended (FurtherPairs n))
 further_act zero l = Refuse
-further_act (suc n) l = Push (WantConstant ∷ Want SColon ∷ WantConstant ∷ WantFurther n ∷ []) (λ ts. record { more = MoreFurther l (MkFixedPair ts.0 ts.1.0 ts.1.1.0) ts.1.1.1.0.more; end = ts.1.1.1.0.end })
+further_act (suc n) l = Push (WantConstant ∷ Want SColon ∷ WantConstant ∷ WantFurther n ∷ [])
+    (λ ts. record { more = MoreFurther l (MkFixedPair ts.0 ts.1.0 ts.1.1.0) ts.1.1.1.0.more; end = ts.1.1.1.0.end })
 
 -- the sign that is wanted, and no other
 abbrev pub same_sign : Sign → Sign → Bool
@@ -212,39 +340,50 @@ act WantPrimary SLeftParenthesis l = Push (WantExpr ∷ Want SRightParenthesis �
 act WantPrimary _ l = Refuse
 act MayPower SPower l = Push factor_items (λ ts. record { line = l; operand = ts.0 } ∷ ts.1.0)
 act MayPower _ l = Pass []
-act MayTimes (SMultiplying o) l = Push term_items (λ ts. let t = shut_factor ts in record { operator = o; line = l; operand = t.0 } ∷ t.1.0)
+act MayTimes (SMultiplying o) l =
+    Push term_items (λ ts. let t = shut_factor ts in record { operator = o; line = l; operand = t.0 } ∷ t.1.0)
 act MayTimes _ l = Pass []
-act MaySum (SAdding o) l = Push (term_items ++ MaySum ∷ []) (λ ts. let t = shut_term ts in record { operator = o; line = l; operand = t.0 } ∷ t.1.0)
+act MaySum (SAdding o) l =
+    Push (term_items ++ MaySum ∷ []) (λ ts. let t = shut_term ts in record { operator = o; line = l; operand = t.0 } ∷ t.1.0)
 act MaySum _ l = Pass []
 act MayRelation (SComparing o) l = Push arithmetic_items (λ ts. ARelation o l (shut_arithmetic ts).0)
 act MayRelation _ l = Pass NoRelation
-act MayAnd SAnd l = Push (negation_items ++ MayAnd ∷ []) (λ ts. let t = shut_negation ts in record { line = l; operand = t.0 } ∷ t.1.0)
+act MayAnd SAnd l =
+    Push (negation_items ++ MayAnd ∷ []) (λ ts. let t = shut_negation ts in record { line = l; operand = t.0 } ∷ t.1.0)
 act MayAnd _ l = Pass []
-act MayOr SOr l = Push (negation_items ++ MayAnd ∷ MayOr ∷ []) (λ ts. let t = shut_conjunction ts in record { line = l; operand = t.0 } ∷ t.1.0)
+act MayOr SOr l =
+    Push (negation_items ++ MayAnd ∷ MayOr ∷ []) (λ ts. let t = shut_conjunction ts in record { line = l; operand = t.0 } ∷ t.1.0)
 act MayOr _ l = Pass []
-act MayImpl SImpl l = Push (negation_items ++ MayAnd ∷ MayOr ∷ MayImpl ∷ []) (λ ts. let t = shut_disjunction ts in record { line = l; operand = t.0 } ∷ t.1.0)
+act MayImpl SImpl l = Push (negation_items ++ MayAnd ∷ MayOr ∷ MayImpl ∷ [])
+    (λ ts. let t = shut_disjunction ts in record { line = l; operand = t.0 } ∷ t.1.0)
 act MayImpl _ l = Pass []
-act MayEquiv SEquiv l = Push (negation_items ++ MayAnd ∷ MayOr ∷ MayImpl ∷ MayEquiv ∷ []) (λ ts. let t = shut_implication ts in record { line = l; operand = t.0 } ∷ t.1.0)
+act MayEquiv SEquiv l = Push (negation_items ++ MayAnd ∷ MayOr ∷ MayImpl ∷ MayEquiv ∷ [])
+    (λ ts. let t = shut_implication ts in record { line = l; operand = t.0 } ∷ t.1.0)
 act MayEquiv _ l = Pass []
 act MayPart SLeftBracket l = Push (WantExpr ∷ WantSubscripts ∷ []) (λ ts. SomeSubscripts l ts.0 ts.1.0)
 act MayPart SLeftParenthesis l = Push (WantActual ∷ WantActuals ∷ []) (λ ts. SomeActuals l ts.0 ts.1.0)
 act MayPart _ l = Pass NoPart
-act WantSubscripts SComma l = Push (WantExpr ∷ WantSubscripts ∷ []) (λ ts. record { more = MoreExprs l ts.0 ts.1.0.more; end = ts.1.0.end })
+act WantSubscripts SComma l =
+    Push (WantExpr ∷ WantSubscripts ∷ []) (λ ts. record { more = MoreExprs l ts.0 ts.1.0.more; end = ts.1.0.end })
 act WantSubscripts SRightBracket l = Push [] (λ ts. record { more = NoExprs; end = l })
 act WantSubscripts _ l = Refuse
 act WantActual SStringBegin l = Push (WantBytes ∷ []) (λ ts. AString l ts.0.more ts.0.end)
 act WantActual s l = expr_act (λ e. OneExpr e) s l
-act WantActuals SComma l = Push (WantActual ∷ WantActuals ∷ []) (λ ts. record { more = MoreActuals l ts.0 ts.1.0.more; end = ts.1.0.end })
+act WantActuals SComma l =
+    Push (WantActual ∷ WantActuals ∷ []) (λ ts. record { more = MoreActuals l ts.0 ts.1.0.more; end = ts.1.0.end })
 act WantActuals SRightParenthesis l = Push [] (λ ts. record { more = NoActuals; end = l })
 act WantActuals _ l = Refuse
-act WantBytes (SByte b) l = Push (WantBytes ∷ []) (λ ts. record { more = record { value = b; line = l } ∷ ts.0.more; end = ts.0.end })
+act WantBytes (SByte b) l =
+    Push (WantBytes ∷ []) (λ ts. record { more = record { value = b; line = l } ∷ ts.0.more; end = ts.0.end })
 act WantBytes SStringEnd l = Push [] (λ ts. record { more = []; end = l })
 act WantBytes _ l = Refuse
 act WantRight (SName x) l = Push (WantAfterRight ∷ []) (λ ts. right_of (name_at x l) ts.0)
 act WantRight s l = expr_act no_lefts s l
 act WantAfterRight SBecomes l = Push (WantRight ∷ []) (λ ts. NameIsLeft l ts.0)
-act WantAfterRight SLeftBracket l = Push (WantExpr ∷ WantSubscripts ∷ WantAfterElement ∷ []) (λ ts. NameHasSubscripts l ts.0 ts.1.0 ts.1.1.0)
-act WantAfterRight SLeftParenthesis l = Push (WantActual ∷ WantActuals ∷ tail_items) (λ ts. NameHasActuals l ts.0 ts.1.0 (tails_of ts.1.1))
+act WantAfterRight SLeftBracket l =
+    Push (WantExpr ∷ WantSubscripts ∷ WantAfterElement ∷ []) (λ ts. NameHasSubscripts l ts.0 ts.1.0 ts.1.1.0)
+act WantAfterRight SLeftParenthesis l =
+    Push (WantActual ∷ WantActuals ∷ tail_items) (λ ts. NameHasActuals l ts.0 ts.1.0 (tails_of ts.1.1))
 act WantAfterRight s l = tails_act (λ t. NameIsOperand t) s l
 act WantAfterElement SBecomes l = Push (WantRight ∷ []) (λ ts. ElementIsLeft l ts.0)
 act WantAfterElement s l = tails_act (λ t. ElementIsOperand t) s l
@@ -256,14 +395,20 @@ act WantType (SType t) l = Push [] (λ ts. type_at t l)
 act WantType _ l = Refuse
 act WantAfterType (SName x) l = Push (MayNames ∷ []) (λ ts. TypeNames (MkNames (name_at x l) ts.0))
 act WantAfterType SArray l = Push (WantSegment ∷ MaySegments ∷ []) (λ ts. TypeArrays l ts.0 ts.1.0)
-act WantAfterType SProcedure l = Push procedure_items (λ ts. TypeProcedure l ts.0 ts.1.0 ts.1.1.0 ts.1.1.1.0 ts.1.1.1.1.0 ts.1.1.1.1.1.0)
+act WantAfterType SProcedure l =
+    Push procedure_items (λ ts. TypeProcedure l ts.0 ts.1.0 ts.1.1.0 ts.1.1.1.0 ts.1.1.1.1.0 ts.1.1.1.1.1.0)
 act WantAfterType _ l = Refuse
 act WantAfterOwnType (SName x) l = Push (MayNames ∷ []) (λ ts. OwnNames (MkNames (name_at x l) ts.0))
 act WantAfterOwnType SArray l = Push (WantFixed ∷ MayFixed ∷ []) (λ ts. OwnArrays l ts.0 ts.1.0)
 act WantAfterOwnType _ l = Refuse
-act WantSegment (SName x) l = Push segment_items (λ ts. MkSegment (MkNames (name_at x l) ts.0) ts.1.0 (MkPair ts.1.1.0 ts.1.1.1.0 ts.1.1.1.1.0) ts.1.1.1.1.1.0.more ts.1.1.1.1.1.0.end)
+act WantSegment (SName x) l =
+    Push segment_items
+    (λ ts.
+    MkSegment (MkNames (name_at x l) ts.0) ts.1.0 (MkPair ts.1.1.0 ts.1.1.1.0 ts.1.1.1.1.0) ts.1.1.1.1.1.0.more
+    ts.1.1.1.1.1.0.end)
 act WantSegment _ l = Refuse
-act WantPairs SComma l = Push (WantExpr ∷ Want SColon ∷ WantExpr ∷ WantPairs ∷ []) (λ ts. record { more = record { comma = l; pair = MkPair ts.0 ts.1.0 ts.1.1.0 } ∷ ts.1.1.1.0.more; end = ts.1.1.1.0.end })
+act WantPairs SComma l = Push (WantExpr ∷ Want SColon ∷ WantExpr ∷ WantPairs ∷ [])
+    (λ ts. record { more = record { comma = l; pair = MkPair ts.0 ts.1.0 ts.1.1.0 } ∷ ts.1.1.1.0.more; end = ts.1.1.1.0.end })
 act WantPairs SRightBracket l = Push [] (λ ts. record { more = []; end = l })
 act WantPairs _ l = Refuse
 act MaySegments SComma l = Push (WantSegment ∷ MaySegments ∷ []) (λ ts. record { comma = l; segment = ts.0 } ∷ ts.1.0)
@@ -271,18 +416,24 @@ act MaySegments _ l = Pass []
 act WantConstant (SNumber v) l = Push [] (λ ts. Unsigned v l)
 act WantConstant (SAdding o) l = Push (WantNumber ∷ []) (λ ts. WithSign o l ts.0.value ts.0.line)
 act WantConstant _ l = Refuse
-act WantFixed (SName x) l = Push fixed_items (λ ts. MkFixed (MkNames (name_at x l) ts.0) ts.1.0 (MkFixedPair ts.1.1.0 ts.1.1.1.0 ts.1.1.1.1.0) ts.1.1.1.1.1.0.more ts.1.1.1.1.1.0.end)
+act WantFixed (SName x) l =
+    Push fixed_items
+    (λ ts.
+    MkFixed (MkNames (name_at x l) ts.0) ts.1.0 (MkFixedPair ts.1.1.0 ts.1.1.1.0 ts.1.1.1.1.0) ts.1.1.1.1.1.0.more
+    ts.1.1.1.1.1.0.end)
 act WantFixed _ l = Refuse
 act (WantFurther n) SComma l = further_act n l
 act (WantFurther n) SRightBracket l = Push [] (λ ts. record { more = no_further n; end = l })
 act (WantFurther n) _ l = Refuse
 act MayFixed SComma l = Push (WantFixed ∷ MayFixed ∷ []) (λ ts. record { comma = l; segment = ts.0 } ∷ ts.1.0)
 act MayFixed _ l = Pass []
-act MayFormals SLeftParenthesis l = Push (WantName ∷ MayNames ∷ Want SRightParenthesis ∷ []) (λ ts. FormalList l (MkNames ts.0 ts.1.0) ts.1.1.0)
+act MayFormals SLeftParenthesis l =
+    Push (WantName ∷ MayNames ∷ Want SRightParenthesis ∷ []) (λ ts. FormalList l (MkNames ts.0 ts.1.0) ts.1.1.0)
 act MayFormals _ l = Pass NoFormals
 act MayValues SValue l = Push (WantName ∷ MayNames ∷ Want SSemicolon ∷ []) (λ ts. ValueList l (MkNames ts.0 ts.1.0) ts.1.1.0)
 act MayValues _ l = Pass NoValues
-act MaySpecifications (SType t) l = Push (MayWord ∷ WantName ∷ MayNames ∷ Want SSemicolon ∷ MaySpecifications ∷ []) (λ ts. specification_of (specifier_of (type_at t l) ts.0) ts.1.0 ts.1.1.0 ts.1.1.1.0 ∷ ts.1.1.1.1.0)
+act MaySpecifications (SType t) l = Push (MayWord ∷ WantName ∷ MayNames ∷ Want SSemicolon ∷ MaySpecifications ∷ [])
+    (λ ts. specification_of (specifier_of (type_at t l) ts.0) ts.1.0 ts.1.1.0 ts.1.1.1.0 ∷ ts.1.1.1.1.0)
 act MaySpecifications SLabel l = word_specification (LabelSpec l)
 act MaySpecifications SSwitch l = word_specification (SwitchSpec l)
 act MaySpecifications SString l = word_specification (StringSpec l)
@@ -291,24 +442,33 @@ act MaySpecifications _ l = Pass []
 act MayWord SArray l = Push [] (λ ts. ArrayWord l)
 act MayWord SProcedure l = Push [] (λ ts. ProcedureWord l)
 act MayWord _ l = Pass NoWord
-act MayDeclarations (SType t) l = Push (WantAfterType ∷ Want SSemicolon ∷ MayDeclarations ∷ []) (λ ts. MoreDeclarations (declare_by_type (type_at t l) ts.0) ts.1.0 ts.1.1.0)
-act MayDeclarations SOwn l = Push (WantType ∷ WantAfterOwnType ∷ Want SSemicolon ∷ MayDeclarations ∷ []) (λ ts. MoreDeclarations (declare_own l ts.0 ts.1.0) ts.1.1.0 ts.1.1.1.0)
-act MayDeclarations SSwitch l = Push (WantName ∷ Want SBecomes ∷ WantExpr ∷ MayExprs ∷ Want SSemicolon ∷ MayDeclarations ∷ []) (λ ts. MoreDeclarations (DeclareSwitch l ts.0 ts.1.0 ts.1.1.0 ts.1.1.1.0) ts.1.1.1.1.0 ts.1.1.1.1.1.0)
-act MayDeclarations SProcedure l = Push (procedure_items ++ Want SSemicolon ∷ MayDeclarations ∷ []) (λ ts. MoreDeclarations (DeclareProcedure (MkHeading None l ts.0 ts.1.0 ts.1.1.0 ts.1.1.1.0 ts.1.1.1.1.0) ts.1.1.1.1.1.0) ts.1.1.1.1.1.1.0 ts.1.1.1.1.1.1.1.0)
+act MayDeclarations (SType t) l = Push (WantAfterType ∷ Want SSemicolon ∷ MayDeclarations ∷ [])
+    (λ ts. MoreDeclarations (declare_by_type (type_at t l) ts.0) ts.1.0 ts.1.1.0)
+act MayDeclarations SOwn l = Push (WantType ∷ WantAfterOwnType ∷ Want SSemicolon ∷ MayDeclarations ∷ [])
+    (λ ts. MoreDeclarations (declare_own l ts.0 ts.1.0) ts.1.1.0 ts.1.1.1.0)
+act MayDeclarations SSwitch l = Push (WantName ∷ Want SBecomes ∷ WantExpr ∷ MayExprs ∷ Want SSemicolon ∷ MayDeclarations ∷ [])
+    (λ ts. MoreDeclarations (DeclareSwitch l ts.0 ts.1.0 ts.1.1.0 ts.1.1.1.0) ts.1.1.1.1.0 ts.1.1.1.1.1.0)
+act MayDeclarations SProcedure l = Push (procedure_items ++ Want SSemicolon ∷ MayDeclarations ∷ [])
+    (λ ts. MoreDeclarations (DeclareProcedure (MkHeading None l ts.0 ts.1.0 ts.1.1.0 ts.1.1.1.0 ts.1.1.1.1.0) ts.1.1.1.1.1.0)
+    ts.1.1.1.1.1.1.0 ts.1.1.1.1.1.1.1.0)
 act MayDeclarations _ l = Pass NoDeclarations
 act WantStatement (SName x) l = Push (WantAfterName ∷ []) (λ ts. named_statement (name_at x l) ts.0)
-act WantStatement SBegin l = Push (MayDeclarations ∷ WantStatement ∷ WantStatements ∷ []) (λ ts. basic (OneGroup (group_of l ts.0 ts.1.0 ts.1.1.0)))
+act WantStatement SBegin l =
+    Push (MayDeclarations ∷ WantStatement ∷ WantStatements ∷ []) (λ ts. basic (OneGroup (group_of l ts.0 ts.1.0 ts.1.1.0)))
 act WantStatement SGoto l = Push (WantExpr ∷ []) (λ ts. basic (Jump l ts.0))
-act WantStatement SIf l = Push (WantExpr ∷ Want SThen ∷ WantBranch ∷ []) (λ ts. OneConditional (conditional_of l ts.0 ts.1.0 ts.1.1.0))
+act WantStatement SIf l =
+    Push (WantExpr ∷ Want SThen ∷ WantBranch ∷ []) (λ ts. OneConditional (conditional_of l ts.0 ts.1.0 ts.1.1.0))
 act WantStatement SFor l = Push loop_items (λ ts. OneLoop (loop_of l ts))
 act WantStatement _ l = Pass (basic Dummy)
 act WantAfterName SColon l = Push (WantStatement ∷ []) (λ ts. NameLabels l ts.0)
 act WantAfterName SBecomes l = Push (WantRight ∷ []) (λ ts. NameAssigned l ts.0)
-act WantAfterName SLeftBracket l = Push (WantExpr ∷ WantSubscripts ∷ Want SBecomes ∷ WantRight ∷ []) (λ ts. ElementAssigned l ts.0 ts.1.0 ts.1.1.0 ts.1.1.1.0)
+act WantAfterName SLeftBracket l =
+    Push (WantExpr ∷ WantSubscripts ∷ Want SBecomes ∷ WantRight ∷ []) (λ ts. ElementAssigned l ts.0 ts.1.0 ts.1.1.0 ts.1.1.1.0)
 act WantAfterName SLeftParenthesis l = Push (WantActual ∷ WantActuals ∷ []) (λ ts. NameCalled l ts.0 ts.1.0)
 act WantAfterName _ l = Pass NameAlone
 act WantBranch (SName x) l = Push (WantAfterBranchName ∷ []) (λ ts. named_branch (name_at x l) ts.0)
-act WantBranch SBegin l = Push (MayDeclarations ∷ WantStatement ∷ WantStatements ∷ MayElse ∷ []) (λ ts. basic_branch (OneGroup (group_of l ts.0 ts.1.0 ts.1.1.0)) ts.1.1.1.0)
+act WantBranch SBegin l = Push (MayDeclarations ∷ WantStatement ∷ WantStatements ∷ MayElse ∷ [])
+    (λ ts. basic_branch (OneGroup (group_of l ts.0 ts.1.0 ts.1.1.0)) ts.1.1.1.0)
 act WantBranch SGoto l = Push (WantExpr ∷ MayElse ∷ []) (λ ts. basic_branch (Jump l ts.0) ts.1.0)
 act WantBranch SFor l = Push loop_items (λ ts. BranchLoop (loop_of l ts))
 act WantBranch SElse l = Push (WantStatement ∷ []) (λ ts. basic_branch Dummy (AnElse l ts.0))
@@ -316,8 +476,10 @@ act WantBranch SIf l = Refuse
 act WantBranch _ l = Pass (basic_branch Dummy NoElse)
 act WantAfterBranchName SColon l = Push (WantBranch ∷ []) (λ ts. BranchLabels l ts.0)
 act WantAfterBranchName SBecomes l = Push (WantRight ∷ MayElse ∷ []) (λ ts. BranchAssigned l ts.0 ts.1.0)
-act WantAfterBranchName SLeftBracket l = Push (WantExpr ∷ WantSubscripts ∷ Want SBecomes ∷ WantRight ∷ MayElse ∷ []) (λ ts. BranchElement l ts.0 ts.1.0 ts.1.1.0 ts.1.1.1.0 ts.1.1.1.1.0)
-act WantAfterBranchName SLeftParenthesis l = Push (WantActual ∷ WantActuals ∷ MayElse ∷ []) (λ ts. BranchCalled l ts.0 ts.1.0 ts.1.1.0)
+act WantAfterBranchName SLeftBracket l = Push (WantExpr ∷ WantSubscripts ∷ Want SBecomes ∷ WantRight ∷ MayElse ∷ [])
+    (λ ts. BranchElement l ts.0 ts.1.0 ts.1.1.0 ts.1.1.1.0 ts.1.1.1.1.0)
+act WantAfterBranchName SLeftParenthesis l =
+    Push (WantActual ∷ WantActuals ∷ MayElse ∷ []) (λ ts. BranchCalled l ts.0 ts.1.0 ts.1.1.0)
 act WantAfterBranchName SElse l = Push (WantStatement ∷ []) (λ ts. BranchAlone (AnElse l ts.0))
 act WantAfterBranchName _ l = Pass (BranchAlone NoElse)
 act MayElse SElse l = Push (WantStatement ∷ []) (λ ts. AnElse l ts.0)
@@ -325,12 +487,15 @@ act MayElse _ l = Pass NoElse
 act MayStep SStep l = Push (WantExpr ∷ Want SUntil ∷ WantExpr ∷ []) (λ ts. AStep l ts.0 ts.1.0 ts.1.1.0)
 act MayStep SWhile l = Push (WantExpr ∷ []) (λ ts. AWhile l ts.0)
 act MayStep _ l = Pass NoStep
-act WantTurns SComma l = Push (WantExpr ∷ MayStep ∷ WantTurns ∷ []) (λ ts. record { more = record { comma = l; turns = turns_of ts.0 ts.1.0 } ∷ ts.1.1.0.more; end = ts.1.1.0.end })
+act WantTurns SComma l = Push (WantExpr ∷ MayStep ∷ WantTurns ∷ [])
+    (λ ts. record { more = record { comma = l; turns = turns_of ts.0 ts.1.0 } ∷ ts.1.1.0.more; end = ts.1.1.0.end })
 act WantTurns SDo l = Push [] (λ ts. record { more = []; end = l })
 act WantTurns _ l = Refuse
-act WantStatements SSemicolon l = Push (WantStatement ∷ WantStatements ∷ []) (λ ts. record { more = MoreStatements l ts.0 ts.1.0.more; end = ts.1.0.end })
+act WantStatements SSemicolon l =
+    Push (WantStatement ∷ WantStatements ∷ []) (λ ts. record { more = MoreStatements l ts.0 ts.1.0.more; end = ts.1.0.end })
 act WantStatements SEnd l = Push [] (λ ts. record { more = NoStatements; end = l })
 act WantStatements _ l = Refuse
 act WantProgram (SName x) l = Push (Want SColon ∷ WantProgram ∷ []) (λ ts. label_program (label_at (name_at x l) ts.0) ts.1.0)
-act WantProgram SBegin l = Push (MayDeclarations ∷ WantStatement ∷ WantStatements ∷ Want STextEnd ∷ []) (λ ts. MkProgram [] (group_of l ts.0 ts.1.0 ts.1.1.0) ts.1.1.1.0)
+act WantProgram SBegin l = Push (MayDeclarations ∷ WantStatement ∷ WantStatements ∷ Want STextEnd ∷ [])
+    (λ ts. MkProgram [] (group_of l ts.0 ts.1.0 ts.1.1.0) ts.1.1.1.0)
 act WantProgram _ l = Refuse

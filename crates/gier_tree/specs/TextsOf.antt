@@ -23,7 +23,10 @@ names_of_owns (d ∷ ds) = own_names d ++ names_of_owns ds
 abbrev pub text_program : Text → (value : ℕ) → Program → List Symbol
 text_program t value (MkProgram ls g l) =
     let u = MkProgram ls g l in
-    opens MProgram (first_program u) ∷ entries t.stage (program_entries u) (first_program u) (text_labels ls (text_group t (program_places u) (record { level = 1; numbers = entries_numbers (program_entries u); owns = 0 }) g
+    opens MProgram (first_program u)
+    ∷ entries t.stage (program_entries u) (first_program u)
+    (text_labels ls
+    (text_group t (program_places u) (record { level = 1; numbers = entries_numbers (program_entries u); owns = 0 }) g
     (shuts MProgram (group_end g) ∷ sym TextEnd value l ∷ [])))
 
 abbrev pub text_by : Stage → (written : Program) → Text

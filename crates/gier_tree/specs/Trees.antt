@@ -107,7 +107,8 @@ mutual
 
 -- the expression that is one primary alone
 abbrev pub only : Primary → Expr
-only p = OneSimple (OneImplication (OneDisjunction (OneConjunction (OneNegation (OneRelation (OneArithmetic (OneTerm (OneFactor (OnePrimary p)))))))))
+only p = OneSimple (OneImplication (OneDisjunction (OneConjunction (OneNegation (OneRelation (OneArithmetic (OneTerm (OneFactor
+    (OnePrimary p)))))))))
 
 -- identifiers with commas between them
 pub record NextName : Type 0 where

@@ -3,7 +3,13 @@
 -- read as its first operand and the list of those that follow; the functions with_ and shut_ make trees of them.
 use Rattle.std.specs.Prelude.{ℕ, List, [], ◌∷◌}
 use Rattle.gier_tree.specs.Signs.{Sign}
-use Rattle.gier_tree.specs.Trees.{Name, Byte, Adding, Multiplying, Comparing, Expr, Simple, OneImplication, Equivalent, Implication, OneDisjunction, Implies, Disjunction, OneConjunction, Either, Conjunction, OneNegation, Both, Negation, OneRelation, Negated, Relation, OneArithmetic, Compared, Arithmetic, OneTerm, Signed, Summed, Term, OneFactor, Multiplied, Factor, OnePrimary, Raised, Primary, Actual, Actuals, Exprs, NextName, Names, TypeWord, NextPair, Segment, NextSegment, Constant, FurtherPairs, FixedSegment, NextFixed, Formals, ValuePart, Specification, LeftPart, NextTurns, Declarations, Statements, Statement, Unconditional, Loop, Program}
+use Rattle.gier_tree.specs.Trees.{Name, Byte, Adding, Multiplying, Comparing, Expr, Simple, OneImplication, Equivalent}
+use Rattle.gier_tree.specs.Trees.{Implication, OneDisjunction, Implies, Disjunction, OneConjunction, Either, Conjunction}
+use Rattle.gier_tree.specs.Trees.{OneNegation, Both, Negation, OneRelation, Negated, Relation, OneArithmetic, Compared}
+use Rattle.gier_tree.specs.Trees.{Arithmetic, OneTerm, Signed, Summed, Term, OneFactor, Multiplied, Factor, OnePrimary, Raised}
+use Rattle.gier_tree.specs.Trees.{Primary, Actual, Actuals, Exprs, NextName, Names, TypeWord, NextPair, Segment, NextSegment}
+use Rattle.gier_tree.specs.Trees.{Constant, FurtherPairs, FixedSegment, NextFixed, Formals, ValuePart, Specification, LeftPart}
+use Rattle.gier_tree.specs.Trees.{NextTurns, Declarations, Statements, Statement, Unconditional, Loop, Program}
 
 -- an operand with the operator before it
 pub record Next (T : Type 0) : Type 0 where
@@ -321,30 +327,46 @@ shut_term ts = let f = shut_factor ts in (with_products (OneFactor f.0) f.1.0, f
 abbrev pub shut_arithmetic : {R : Type 0} → MayBeSign × (Primary × (Powers × (Products × (Sums × R)))) → Arithmetic × R
 shut_arithmetic ts = let t = shut_term ts.1 in (with_sums (with_sign ts.0 t.0) t.1.0, t.1.1)
 
-abbrev pub shut_relation : {R : Type 0} → MayBeSign × (Primary × (Powers × (Products × (Sums × (MayBeRelation × R))))) → Relation × R
+abbrev pub shut_relation : {R : Type 0} → MayBeSign × (Primary × (Powers × (Products × (Sums × (MayBeRelation × R))))) → Relation
+    × R
 shut_relation ts = let a = shut_arithmetic ts in (with_relation a.0 a.1.0, a.1.1)
 
-abbrev pub shut_negation : {R : Type 0} → MayBeNot × (MayBeSign × (Primary × (Powers × (Products × (Sums × (MayBeRelation × R)))))) → Negation × R
+abbrev pub shut_negation : {R : Type 0} → MayBeNot
+    × (MayBeSign × (Primary × (Powers × (Products × (Sums × (MayBeRelation × R)))))) → Negation × R
 shut_negation ts = let r = shut_relation ts.1 in (with_not ts.0 r.0, r.1)
 
-abbrev pub shut_conjunction : {R : Type 0} → MayBeNot × (MayBeSign × (Primary × (Powers × (Products × (Sums × (MayBeRelation × (Ands × R))))))) → Conjunction × R
+abbrev pub shut_conjunction : {R : Type 0} → MayBeNot
+    × (MayBeSign × (Primary × (Powers × (Products × (Sums × (MayBeRelation × (Ands × R))))))) → Conjunction × R
 shut_conjunction ts = let n = shut_negation ts in (with_ands (OneNegation n.0) n.1.0, n.1.1)
 
-abbrev pub shut_disjunction : {R : Type 0} → MayBeNot × (MayBeSign × (Primary × (Powers × (Products × (Sums × (MayBeRelation × (Ands × (Ors × R)))))))) → Disjunction × R
+abbrev pub shut_disjunction : {R : Type 0} → MayBeNot
+    × (MayBeSign × (Primary × (Powers × (Products × (Sums × (MayBeRelation × (Ands × (Ors × R)))))))) → Disjunction × R
 shut_disjunction ts = let c = shut_conjunction ts in (with_ors (OneConjunction c.0) c.1.0, c.1.1)
 
-abbrev pub shut_implication : {R : Type 0} → MayBeNot × (MayBeSign × (Primary × (Powers × (Products × (Sums × (MayBeRelation × (Ands × (Ors × (Impls × R))))))))) → Implication × R
+abbrev pub shut_implication : {R : Type 0} → MayBeNot
+    × (MayBeSign × (Primary × (Powers × (Products × (Sums × (MayBeRelation × (Ands × (Ors × (Impls × R))))))))) → Implication × R
 shut_implication ts = let d = shut_disjunction ts in (with_impls (OneDisjunction d.0) d.1.0, d.1.1)
 
-abbrev pub shut_simple : {R : Type 0} → MayBeNot × (MayBeSign × (Primary × (Powers × (Products × (Sums × (MayBeRelation × (Ands × (Ors × (Impls × (Equivs × R)))))))))) → Simple × R
+abbrev pub shut_simple : {R : Type 0} → MayBeNot × (MayBeSign × (Primary × (Powers × (Products × (Sums × (MayBeRelation × (Ands
+    × (Ors × (Impls × (Equivs × R)))))))))) → Simple × R
 shut_simple ts = let i = shut_implication ts in (with_equivs (OneImplication i.0) i.1.0, i.1.1)
 
 abbrev pub tails_of : Trees tail_items → Tails
-tails_of ts = record { powers = ts.0; products = ts.1.0; sums = ts.1.1.0; relation = ts.1.1.1.0; ands = ts.1.1.1.1.0; ors = ts.1.1.1.1.1.0; impls = ts.1.1.1.1.1.1.0; equivs = ts.1.1.1.1.1.1.1.0 }
+tails_of ts = record {
+  powers = ts.0;
+  products = ts.1.0;
+  sums = ts.1.1.0;
+  relation = ts.1.1.1.0;
+  ands = ts.1.1.1.1.0;
+  ors = ts.1.1.1.1.1.0;
+  impls = ts.1.1.1.1.1.1.0;
+  equivs = ts.1.1.1.1.1.1.1.0;
+}
 
 -- a simple expression that begins with this operand
 abbrev pub simple_of : MayBeNot → MayBeSign → Primary → Trees tail_items → Simple
 simple_of n g p ts = (shut_simple (n, (g, (p, ts)))).0
 
 abbrev pub simple_from : Primary → Tails → Simple
-simple_from p t = simple_of NoNot NoSign p (t.powers, (t.products, (t.sums, (t.relation, (t.ands, (t.ors, (t.impls, (t.equivs, tt))))))))
+simple_from p t =
+    simple_of NoNot NoSign p (t.powers, (t.products, (t.sums, (t.relation, (t.ands, (t.ors, (t.impls, (t.equivs, tt))))))))

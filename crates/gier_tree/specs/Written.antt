@@ -1,16 +1,26 @@
 -- How the parts of expressions stand in the texts 3 to 6. The four texts differ in how used identifiers are written and, for the
 -- last, in the order of operators and their operands.
-use Rattle.std.specs.Prelude.{ℕ, suc, ◌+◌, ◌-◌, ◌*◌, ◌^◌, ◌&&◌, min, zero, Bool, true, false, nat_lt, List, [], ◌∷◌, Option, None, Some, if◌then◌else◌}
+use Rattle.std.specs.Prelude.{ℕ, suc, ◌+◌, ◌-◌, ◌*◌, ◌^◌, ◌&&◌, min, zero, Bool, true, false, nat_lt, List, [], ◌∷◌, Option, None}
+use Rattle.std.specs.Prelude.{Some, if◌then◌else◌}
 use Rattle.gier_symbol.specs.declared.symbol.Symbol.{Symbol}
 use Rattle.gier_symbol.specs.declared.tag.Tag.{Tag}
-use Rattle.gier_symbol.specs.declared.tag.Tag.TheVariants.{Identifier, Number, StringBegin, StringEnd, Power, Not, And, Or, Impl, Equiv, Comma, LeftParenthesis, RightParenthesis, LeftBracket, RightBracket, If, Then, Else, LeadingPlus, LeadingMinus, OpenMark, ShutMark, Used, Place, Count, Operation, Subscripted as SubscriptedTag, Called}
+use Rattle.gier_symbol.specs.declared.tag.Tag.TheVariants.{Identifier, Number, StringBegin, StringEnd, Power, Not, And, Or, Impl}
+use Rattle.gier_symbol.specs.declared.tag.Tag.TheVariants.{Equiv, Comma, LeftParenthesis, RightParenthesis, LeftBracket}
+use Rattle.gier_symbol.specs.declared.tag.Tag.TheVariants.{RightBracket, If, Then, Else, LeadingPlus, LeadingMinus, OpenMark}
+use Rattle.gier_symbol.specs.declared.tag.Tag.TheVariants.{ShutMark, Used, Place, Count, Operation, Subscripted as SubscriptedTag}
+use Rattle.gier_symbol.specs.declared.tag.Tag.TheVariants.{Called}
 use Rattle.gier_symbol.specs.ByTag.{sym, word}
 use Rattle.gier_symbol.specs.Tags.{number_of}
 use Rattle.gier_tree.specs.Constructs.{construct_number}
 use Rattle.gier_tree.specs.declared.construct.Construct.{Construct}
-use Rattle.gier_tree.specs.declared.construct.Construct.TheVariants.{Actual as MActual, Subscript as MSubscript, ConditionalExpression as MConditional}
+use Rattle.gier_tree.specs.declared.construct.Construct.TheVariants.{Actual as MActual, Subscript as MSubscript}
+use Rattle.gier_tree.specs.declared.construct.Construct.TheVariants.{ConditionalExpression as MConditional}
 use Rattle.gier_tree.specs.declared.kind.Kind.{Kind}
-use Rattle.gier_tree.specs.declared.kind.Kind.TheVariants.{IntegerArray, BooleanArray, Procedure, IntegerProcedure, BooleanProcedure, IntegerValue, BooleanValue, IntegerFormal, BooleanFormal, LabelFormal, StringFormal, ProcedureFormal, IntegerProcedureFormal, BooleanProcedureFormal, OutInteger, OutText, OutChar, InInteger, InChar, Abs, Sign}
+use Rattle.gier_tree.specs.declared.kind.Kind.TheVariants.{IntegerArray, BooleanArray, Procedure, IntegerProcedure}
+use Rattle.gier_tree.specs.declared.kind.Kind.TheVariants.{BooleanProcedure, IntegerValue, BooleanValue, IntegerFormal}
+use Rattle.gier_tree.specs.declared.kind.Kind.TheVariants.{BooleanFormal, LabelFormal, StringFormal, ProcedureFormal}
+use Rattle.gier_tree.specs.declared.kind.Kind.TheVariants.{IntegerProcedureFormal, BooleanProcedureFormal, OutInteger, OutText}
+use Rattle.gier_tree.specs.declared.kind.Kind.TheVariants.{OutChar, InInteger, InChar, Abs, Sign}
 use Rattle.gier_tree.specs.Kinds.{kind_number}
 use Rattle.gier_tree.specs.Described.{Described}
 use Rattle.gier_tree.specs.Hoist.{first_fresh}
@@ -18,9 +28,16 @@ use Rattle.gier_tree.specs.Lines.{first_expr, last_expr}
 use Rattle.gier_tree.specs.Need.{count_exprs, count_actuals}
 use Rattle.gier_tree.specs.Places.{Placed, Places}
 use Rattle.gier_tree.specs.Spell.{ident, adding_tag, multiplying_tag, comparing_tag, logical_tag, spell_bytes}
-use Rattle.gier_tree.specs.Trees.{Name, Adding, Add, Subtract, Expr, OneSimple, IfExpr, Simple, OneImplication, Equivalent, Implication, OneDisjunction, Implies, Disjunction, OneConjunction, Either, Conjunction, OneNegation, Both, Negation, OneRelation, Negated, Relation, OneArithmetic, Compared, Arithmetic, OneTerm, Signed, Summed, Term, OneFactor, Multiplied, Factor, OnePrimary, Raised, Primary, Numeral, Logical, Bracketed, OneCall, OneElement, Call, Alone, WithActuals, Element, Subscripted, Actual, OneExpr, AString, Actuals, NoActuals, MoreActuals, Exprs, NoExprs, MoreExprs}
+use Rattle.gier_tree.specs.Trees.{Name, Adding, Add, Subtract, Expr, OneSimple, IfExpr, Simple, OneImplication, Equivalent}
+use Rattle.gier_tree.specs.Trees.{Implication, OneDisjunction, Implies, Disjunction, OneConjunction, Either, Conjunction}
+use Rattle.gier_tree.specs.Trees.{OneNegation, Both, Negation, OneRelation, Negated, Relation, OneArithmetic, Compared}
+use Rattle.gier_tree.specs.Trees.{Arithmetic, OneTerm, Signed, Summed, Term, OneFactor, Multiplied, Factor, OnePrimary, Raised}
+use Rattle.gier_tree.specs.Trees.{Primary, Numeral, Logical, Bracketed, OneCall, OneElement, Call, Alone, WithActuals, Element}
+use Rattle.gier_tree.specs.Trees.{Subscripted, Actual, OneExpr, AString, Actuals, NoActuals, MoreActuals, Exprs, NoExprs}
+use Rattle.gier_tree.specs.Trees.{MoreExprs}
 
--- text 3 has marks, text 4 the entries of scopes, text 5 places in place of used identifiers, text 6 operators behind their operands
+-- text 3 has marks, text 4 the entries of scopes, text 5 places in place of used identifiers, text 6 operators behind their
+-- operands
 pub data Stage : Type 0 where
   Marked : Stage
   Collected : Stage
@@ -66,7 +83,8 @@ abbrev pub place_number : Placed → ℕ
 place_number at = at.level * 2 ^ 24 + min at.address greatest_address
 
 abbrev pub described_use : Placed → (line : ℕ) → List Symbol → List Symbol
-described_use at line rest = sym Used (kind_number at.what.kind) line ∷ sym Place (place_number at) line ∷ count_behind at.what.kind at.what.count line rest
+described_use at line rest = sym Used (kind_number at.what.kind) line ∷ sym Place (place_number at) line
+    ∷ count_behind at.what.kind at.what.count line rest
 
 abbrev pub used_in : Stage → List Name → Placed → Name → List Symbol → List Symbol
 used_in Marked owns at x rest = ident x ∷ rest
@@ -157,7 +175,8 @@ is_called_as (Known (kind ∷ kinds)) d = wants_value kind && is_called_alone d.
 
 -- the identifier that an expression is, where it is one alone
 abbrev pub name_alone : Expr → Option Name
-name_alone (OneSimple (OneImplication (OneDisjunction (OneConjunction (OneNegation (OneRelation (OneArithmetic (OneTerm (OneFactor (OnePrimary (OneCall (Alone x)))))))))))) = Some x
+name_alone (OneSimple (OneImplication (OneDisjunction (OneConjunction (OneNegation (OneRelation (OneArithmetic (OneTerm (OneFactor
+    (OnePrimary (OneCall (Alone x)))))))))))) = Some x
 name_alone e = None
 
 abbrev pub called_alone : Stage → (called : Bool) → (line : ℕ) → List Symbol → List Symbol
@@ -175,44 +194,59 @@ actual_by (Some x) t p e written rest = text_name t p (is_called_as e (p x.numbe
 abbrev mutual
   pub text_expr : Text → Places → Expr → List Symbol → List Symbol
   text_expr t p (OneSimple s) rest = text_simple t p s rest
-  text_expr t p (IfExpr l c m s n e) rest = opens MConditional l ∷ word If l ∷ text_expr t p c (word Then m ∷ text_simple t p s (word Else n ∷ text_expr t p e (shuts MConditional (last_expr e) ∷ rest)))
+  text_expr t p (IfExpr l c m s n e) rest = opens MConditional l ∷ word If l
+      ∷ text_expr t p c (word Then m ∷ text_simple t p s (word Else n
+      ∷ text_expr t p e (shuts MConditional (last_expr e) ∷ rest)))
 
   pub text_simple : Text → Places → Simple → List Symbol → List Symbol
   text_simple t p (OneImplication i) rest = text_implication t p i rest
-  text_simple t p (Equivalent s l i) rest = text_simple t p s (separator t.stage (word Equiv l) (text_implication t p i (behind t.stage (operation Equiv l) rest)))
+  text_simple t p (Equivalent s l i) rest =
+      text_simple t p s (separator t.stage (word Equiv l) (text_implication t p i (behind t.stage (operation Equiv l) rest)))
 
   pub text_implication : Text → Places → Implication → List Symbol → List Symbol
   text_implication t p (OneDisjunction d) rest = text_disjunction t p d rest
-  text_implication t p (Implies i l d) rest = text_implication t p i (separator t.stage (word Impl l) (text_disjunction t p d (behind t.stage (operation Impl l) rest)))
+  text_implication t p (Implies i l d) rest =
+      text_implication t p i (separator t.stage (word Impl l) (text_disjunction t p d (behind t.stage (operation Impl l) rest)))
 
   pub text_disjunction : Text → Places → Disjunction → List Symbol → List Symbol
   text_disjunction t p (OneConjunction c) rest = text_conjunction t p c rest
-  text_disjunction t p (Either d l c) rest = text_disjunction t p d (separator t.stage (word Or l) (text_conjunction t p c (behind t.stage (operation Or l) rest)))
+  text_disjunction t p (Either d l c) rest =
+      text_disjunction t p d (separator t.stage (word Or l) (text_conjunction t p c (behind t.stage (operation Or l) rest)))
 
   pub text_conjunction : Text → Places → Conjunction → List Symbol → List Symbol
   text_conjunction t p (OneNegation n) rest = text_negation t p n rest
-  text_conjunction t p (Both c l n) rest = text_conjunction t p c (separator t.stage (word And l) (text_negation t p n (behind t.stage (operation And l) rest)))
+  text_conjunction t p (Both c l n) rest =
+      text_conjunction t p c (separator t.stage (word And l) (text_negation t p n (behind t.stage (operation And l) rest)))
 
   pub text_negation : Text → Places → Negation → List Symbol → List Symbol
   text_negation t p (OneRelation r) rest = text_relation t p r rest
-  text_negation t p (Negated l r) rest = separator t.stage (word Not l) (text_relation t p r (behind t.stage (operation Not l) rest))
+  text_negation t p (Negated l r) rest =
+      separator t.stage (word Not l) (text_relation t p r (behind t.stage (operation Not l) rest))
 
   pub text_relation : Text → Places → Relation → List Symbol → List Symbol
   text_relation t p (OneArithmetic a) rest = text_arithmetic t p a rest
-  text_relation t p (Compared a o l b) rest = text_arithmetic t p a (separator t.stage (word (comparing_tag o) l) (text_arithmetic t p b (behind t.stage (operation (comparing_tag o) l) rest)))
+  text_relation t p (Compared a o l b) rest =
+      text_arithmetic t p a (separator t.stage (word (comparing_tag o) l) (text_arithmetic t p b (behind t.stage
+      (operation (comparing_tag o) l) rest)))
 
   pub text_arithmetic : Text → Places → Arithmetic → List Symbol → List Symbol
   text_arithmetic t p (OneTerm m) rest = text_term t p m rest
-  text_arithmetic t p (Signed o l m) rest = separator t.stage (word (leading_tag o) l) (text_term t p m (behind t.stage (operation (leading_tag o) l) rest))
-  text_arithmetic t p (Summed a o l m) rest = text_arithmetic t p a (separator t.stage (word (adding_tag o) l) (text_term t p m (behind t.stage (operation (adding_tag o) l) rest)))
+  text_arithmetic t p (Signed o l m) rest =
+      separator t.stage (word (leading_tag o) l) (text_term t p m (behind t.stage (operation (leading_tag o) l) rest))
+  text_arithmetic t p (Summed a o l m) rest =
+      text_arithmetic t p a (separator t.stage (word (adding_tag o) l) (text_term t p m (behind t.stage
+      (operation (adding_tag o) l) rest)))
 
   pub text_term : Text → Places → Term → List Symbol → List Symbol
   text_term t p (OneFactor f) rest = text_factor t p f rest
-  text_term t p (Multiplied m o l f) rest = text_term t p m (separator t.stage (word (multiplying_tag o) l) (text_factor t p f (behind t.stage (operation (multiplying_tag o) l) rest)))
+  text_term t p (Multiplied m o l f) rest =
+      text_term t p m (separator t.stage (word (multiplying_tag o) l) (text_factor t p f (behind t.stage
+      (operation (multiplying_tag o) l) rest)))
 
   pub text_factor : Text → Places → Factor → List Symbol → List Symbol
   text_factor t p (OnePrimary q) rest = text_primary t p q rest
-  text_factor t p (Raised f l q) rest = text_factor t p f (separator t.stage (word Power l) (text_primary t p q (behind t.stage (operation Power l) rest)))
+  text_factor t p (Raised f l q) rest =
+      text_factor t p f (separator t.stage (word Power l) (text_primary t p q (behind t.stage (operation Power l) rest)))
 
   pub text_primary : Text → Places → Primary → List Symbol → List Symbol
   text_primary t p (Numeral n l) rest = sym Number n l ∷ rest
@@ -230,17 +264,23 @@ abbrev mutual
 
   pub text_element : Text → Places → Element → List Symbol → List Symbol
   text_element t p (Subscripted x l e es m) rest =
-      used_name t p x (separator t.stage (word LeftBracket l) (opens MSubscript (first_expr e) ∷ text_expr t p e (shuts MSubscript (last_expr e) ∷ text_subscripts t p es
+      used_name t p x
+      (separator t.stage (word LeftBracket l) (opens MSubscript (first_expr e)
+      ∷ text_expr t p e (shuts MSubscript (last_expr e) ∷ text_subscripts t p es
       (closing_bracket t.stage (word RightBracket m) (sym SubscriptedTag (suc (count_exprs es)) l) rest))))
 
   pub text_actual : Text → Places → Expected → Actual → List Symbol → List Symbol
-  text_actual t p e (OneExpr x) rest = opens MActual (first_expr x) ∷ actual_by (name_alone x) t p e (text_expr t p x (shuts MActual (last_expr x) ∷ rest)) (shuts MActual (last_expr x) ∷ rest)
-  text_actual t p e (AString l bs m) rest = opens MActual l ∷ word StringBegin l ∷ spell_bytes bs (word StringEnd m ∷ shuts MActual m ∷ rest)
+  text_actual t p e (OneExpr x) rest = opens MActual (first_expr x)
+      ∷ actual_by (name_alone x) t p e (text_expr t p x (shuts MActual (last_expr x) ∷ rest)) (shuts MActual (last_expr x) ∷ rest)
+  text_actual t p e (AString l bs m) rest =
+      opens MActual l ∷ word StringBegin l ∷ spell_bytes bs (word StringEnd m ∷ shuts MActual m ∷ rest)
 
   pub text_actuals : Text → Places → Expected → Actuals → List Symbol → List Symbol
   text_actuals t p e NoActuals rest = rest
-  text_actuals t p e (MoreActuals l a more) rest = separator t.stage (word Comma l) (text_actual t p e a (text_actuals t p (further_expected e) more rest))
+  text_actuals t p e (MoreActuals l a more) rest =
+      separator t.stage (word Comma l) (text_actual t p e a (text_actuals t p (further_expected e) more rest))
 
   pub text_subscripts : Text → Places → Exprs → List Symbol → List Symbol
   text_subscripts t p NoExprs rest = rest
-  text_subscripts t p (MoreExprs l e es) rest = separator t.stage (word Comma l) (opens MSubscript (first_expr e) ∷ text_expr t p e (shuts MSubscript (last_expr e) ∷ text_subscripts t p es rest))
+  text_subscripts t p (MoreExprs l e es) rest = separator t.stage (word Comma l) (opens MSubscript (first_expr e)
+      ∷ text_expr t p e (shuts MSubscript (last_expr e) ∷ text_subscripts t p es rest))

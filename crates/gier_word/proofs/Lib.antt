@@ -1,2 +1,4 @@
 pub mod Powers
+pub mod Cause
+pub mod Options
 mod Examples

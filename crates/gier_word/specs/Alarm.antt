@@ -1,7 +1,8 @@
 -- The names of the alarms, and the alarm that an operation without a result gives.
 use Rattle.std.specs.Prelude.{ℕ, List, codes}
 use Rattle.gier_word.specs.declared.alarm.Alarm.{Alarm}
-use Rattle.gier_word.specs.declared.alarm.Alarm.TheVariants.{Spill, Division, Power, Bounds, Subscript, Assignment, Character, Data, Stack, Parameters}
+use Rattle.gier_word.specs.declared.alarm.Alarm.TheVariants.{Spill, Division, Power, Bounds, Subscript, Assignment, Character}
+use Rattle.gier_word.specs.declared.alarm.Alarm.TheVariants.{Data, Stack, Parameters}
 use Rattle.gier_word.specs.declared.int40.Spoil.{Spoil}
 use Rattle.gier_word.specs.declared.int40.Spoil.TheVariants.{Spill as SpillSpoil, Division as DivisionSpoil, Power as PowerSpoil}
 

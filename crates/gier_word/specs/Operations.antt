@@ -1,6 +1,7 @@
 -- The operations on whole numbers from -2^39 to 2^39 - 1 (Report 3.3.4 and 3.2.4): each gives the whole number that
 -- arithmetic gives, or says why there is none.
-use Rattle.std.specs.Prelude.{◌&&◌, ◌+ℤ◌, ◌-ℤ◌, ◌*ℤ◌, ◌≤ℤ◌, ℤ, pos, negsuc, neg_ℤ, nat_abs, int_div, int_le, int_lt, if◌then◌else◌, Bool, Result, Ok, Err}
+use Rattle.std.specs.Prelude.{◌&&◌, ◌+ℤ◌, ◌-ℤ◌, ◌*ℤ◌, ◌≤ℤ◌, ℤ, pos, negsuc, neg_ℤ, nat_abs, int_div, int_le, int_lt}
+use Rattle.std.specs.Prelude.{if◌then◌else◌, Bool, Result, Ok, Err}
 use Rattle.std.specs.Int.{int_pow, int_signum}
 use Rattle.gier_word.specs.declared.int40.Spoil.{Spoil}
 use Rattle.gier_word.specs.declared.int40.Spoil.TheVariants.{Spill, Division, Power}
@@ -41,7 +42,8 @@ quotient_of a b = if is_zero b then Err Division else in_range_or_spill (int_div
 
 -- the repeated product for a positive exponent, and 1 for the exponent 0 of any base but 0
 abbrev pub power_of : ℤ → ℤ → Result ℤ Spoil
-power_of a b = if int_lt b (pos 0) then Err Power else (if is_zero a && is_zero b then Err Power else in_range_or_spill (int_pow a (nat_abs b)))
+power_of a b = if int_lt b (pos 0) then Err Power
+    else (if is_zero a && is_zero b then Err Power else in_range_or_spill (int_pow a (nat_abs b)))
 
 abbrev pub negative_of : ℤ → Result ℤ Spoil
 negative_of a = in_range_or_spill (neg_ℤ a)

@@ -1,6 +1,7 @@
 -- What the standard procedures print, and what the reading ones make of the data, which are a list of bytes.
 -- `abs` and `sign` are operations, in Operations.
-use Rattle.std.specs.Prelude.{◌==◌, ◌&&◌, ◌||◌, ◌-◌, ◌+ℤ◌, ◌-ℤ◌, ◌*ℤ◌, ℕ, suc, ℤ, pos, negsuc, Bool, true, false, nat_lt, nat_le, if◌then◌else◌, List, [], ◌∷◌, Result, Ok, Err}
+use Rattle.std.specs.Prelude.{◌==◌, ◌&&◌, ◌||◌, ◌-◌, ◌+ℤ◌, ◌-ℤ◌, ◌*ℤ◌, ℕ, suc, ℤ, pos, negsuc, Bool, true, false, nat_lt}
+use Rattle.std.specs.Prelude.{nat_le, if◌then◌else◌, List, [], ◌∷◌, Result, Ok, Err}
 use Rattle.std.specs.Fmt.{signed_decimal}
 use Rattle.gier_word.specs.Operations.{is_in_range}
 use Rattle.gier_word.specs.declared.alarm.Alarm.{Alarm}
@@ -53,7 +54,8 @@ abbrev pub digits_read : Bool → ℤ → List ℕ → Reading
 digits_read negative n [] = at_end (Ok n)
 digits_read negative n (byte ∷ bytes) =
     if is_digit byte
-    then (if is_in_range (with_digit negative n byte) then behind_byte (digits_read negative (with_digit negative n byte) bytes) else at_byte (Err Data))
+    then (if is_in_range (with_digit negative n byte) then behind_byte (digits_read negative (with_digit negative n byte) bytes)
+    else at_byte (Err Data))
     else at_byte (Ok n)
 
 -- a digit has to come

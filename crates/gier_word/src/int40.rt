@@ -1,7 +1,8 @@
 // Whole numbers of 40 bits and their operations (Report 3.3.4, whole numbers only).
 ghost use Rattle.std.specs.Prelude.{◌≡◌, ◌≢◌, ◌<◌, ◌^◌, ◌↔◌, pos, nat_abs, int_div, IsSome, IfSome, ◌+ℤ◌, ◌-ℤ◌, ◌*ℤ◌, ◌≤ℤ◌, ◌<ℤ◌};
 ghost use Rattle.std.specs.Int.{int_pow};
-ghost use Rattle.gier_word.specs.Operations.{InRange, in_range_or_spill, sum_of, difference_of, product_of, quotient_of, power_of, negative_of, modulus_of, sign_of};
+ghost use Rattle.gier_word.specs.Operations.{InRange, in_range_or_spill, sum_of, difference_of, product_of, quotient_of};
+ghost use Rattle.gier_word.specs.Operations.{power_of, negative_of, modulus_of, sign_of};
 ghost use Rattle.gier_word.specs.Words.{int_of_word, word_of_int};
 
 use crate::Word40;

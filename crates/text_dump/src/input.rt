@@ -3,6 +3,7 @@ ghost use Rattle.std.specs.Prelude.{◌≡◌, IfOk, IfSome, false};
 ghost use Rattle.gier_symbol.specs.Symbols.{IsSymbol};
 
 use gier_io::Source;
+use gier_limits::LINES;
 use gier_symbol::Symbol;
 use gier_text::{ListText, Text, TextStop};
 use std::alloc::Global;
@@ -13,8 +14,6 @@ const MOST: u64 = 1 << 24;
 
 // Tags and lines are below these.
 const TAGS: u64 = 1 << 8;
-
-const LINES: u64 = 1 << 24;
 
 /// A text and how many bytes its program has.
 #[derive(Drop)]

@@ -2,10 +2,11 @@
 // compared with a model of it. It compiles nothing and isn't needed to run a program.
 //
 // `text_dump K` reads texts K-1 on standard input: for each the number of bytes of the program, the number of symbols, and for each
-// symbol, in the order in which pass K reads it, tag, value and line. For each text it prints a line `tag value line` for each symbol
-// of text K as it is written, a line `fault position line kind` for each fault, and a line `end`. Without an argument it does so
-// with a text of its own. `text_dump K L` drives passes K to L, each over what the one before it wrote, and prints text L, or the faults
-// of the first pass that finds some; of pass 9 it prints the words of the object. `text_dump 1` reads tapes instead: for each the number of bytes, and the bytes as numbers.
+// symbol, in the order in which pass K reads it, tag, value and line. For each text it prints a line `tag value line` for each
+// symbol of text K as it is written, a line `fault position line kind` for each fault, and a line `end`. Without an argument it
+// does so with a text of its own. `text_dump K L` drives passes K to L, each over what the one before it wrote, and prints text
+// L, or the faults of the first pass that finds some; of pass 9 it prints the words of the object. `text_dump 1` reads tapes
+// instead: for each the number of bytes, and the bytes as numbers.
 #![tactic(auto)]
 
 mod input;

@@ -5,6 +5,7 @@ ghost use Rattle.gier_text.specs.TablesModel.{tables_model, fresh};
 use crate::input::{Symbols, text_of};
 use crate::object::show_object;
 use gier_io::MemSource;
+use gier_limits::LIMIT;
 use gier_pass1::Pass1;
 use gier_pass2::Pass2;
 use gier_pass3::Pass3;
@@ -18,16 +19,13 @@ use gier_text::{ListText, Pass, PassStop, Tables, Text, Way, drive};
 use std::alloc::Global;
 use std::io;
 
-// The longest program.
-const LIMIT: u32 = 1 << 19;
-
 // The last pass that writes a text, and the one that writes the object.
 const LAST_PASS: u8 = 8;
 
 const OBJECT_PASS: u8 = 9;
 
-/// Drives the passes from the first to the last one, each over what the one before it wrote, and prints what the last one writes, and
-/// the faults. Passes behind one that finds faults aren't driven. Pass 9 prints the words of the object.
+/// Drives the passes from the first to the last one, each over what the one before it wrote, and prints what the last one writes,
+/// and the faults. Passes behind one that finds faults aren't driven. Pass 9 prints the words of the object.
 pub fn show(rt: &HostRuntime, first: u8, last: u8, symbols: &Symbols) -> io::Result<()> {
     let Ok(mut tables) = Tables::open(rt.alloc(), LIMIT) else {
         return println!(rt; "want of memory");

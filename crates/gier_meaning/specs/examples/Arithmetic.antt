@@ -1,11 +1,20 @@
 -- Operators, standard procedures and data, with their alarms (Report 3.3, 3.4).
 use Rattle.std.specs.Prelude.{[], ◌∷◌, codes, Some, None, true, false}
-use Rattle.gier_tree.specs.Trees.{MkNames, Add, Subtract, Multiply, Divide, LessThan, AtMost, EqualTo, AtLeast, MoreThan, Unequal, IfExpr, OneImplication, Equivalent, OneDisjunction, Implies, OneConjunction, Either, OneNegation, Both, OneRelation, Negated, OneArithmetic, Compared, OneTerm, Signed, Summed, OneFactor, Multiplied, OnePrimary, Raised, Numeral, Logical, Bracketed, OneCall, Alone, WithActuals, OneExpr, AString, NoActuals, only, NoFormals, FormalList, NoValues, ValueList, ValueSpec, MkHeading, OneName, DeclareType, DeclareProcedure, NoDeclarations, MkBlock, MkCompound, NoStatements, MoreStatements, OneConditional, MkUnconditional, OneGroup, Assign, CallStatement, IfThen, MkProgram}
+use Rattle.gier_tree.specs.Trees.{MkNames, Add, Subtract, Multiply, Divide, LessThan, AtMost, EqualTo, AtLeast, MoreThan, Unequal}
+use Rattle.gier_tree.specs.Trees.{IfExpr, OneImplication, Equivalent, OneDisjunction, Implies, OneConjunction, Either}
+use Rattle.gier_tree.specs.Trees.{OneNegation, Both, OneRelation, Negated, OneArithmetic, Compared, OneTerm, Signed, Summed}
+use Rattle.gier_tree.specs.Trees.{OneFactor, Multiplied, OnePrimary, Raised, Numeral, Logical, Bracketed, OneCall, Alone}
+use Rattle.gier_tree.specs.Trees.{WithActuals, OneExpr, AString, NoActuals, only, NoFormals, FormalList, NoValues, ValueList}
+use Rattle.gier_tree.specs.Trees.{ValueSpec, MkHeading, OneName, DeclareType, DeclareProcedure, NoDeclarations, MkBlock}
+use Rattle.gier_tree.specs.Trees.{MkCompound, NoStatements, MoreStatements, OneConditional, MkUnconditional, OneGroup, Assign}
+use Rattle.gier_tree.specs.Trees.{CallStatement, IfThen, MkProgram}
 use Rattle.gier_word.specs.declared.alarm.Alarm.TheVariants.{Spill, Division, Power, Character, Data}
 use Rattle.gier_meaning.specs.Live.{InProgram, InBlock}
 use Rattle.gier_meaning.specs.Outcome.{Alarmed}
 use Rattle.gier_meaning.specs.Observation.{Ended, Stopped}
-use Rattle.gier_meaning.specs.Example.{Example, told_as, live, stop_at, name, byte, integer_word, boolean_word, simple_expr, implication_expr, disjunction_expr, conjunction_expr, negation_expr, relation_expr, sum_expr, term_expr, factor_expr, number, alone, plainly}
+use Rattle.gier_meaning.specs.Example.{Example, told_as, live, stop_at, name, byte, integer_word, boolean_word, simple_expr}
+use Rattle.gier_meaning.specs.Example.{implication_expr, disjunction_expr, conjunction_expr, negation_expr, relation_expr}
+use Rattle.gier_meaning.specs.Example.{sum_expr, term_expr, factor_expr, number, alone, plainly}
 
 --     _begin _integer a; a := 1+2*3; outinteger(a) _end
 abbrev pub sum_and_product : Example
@@ -63,7 +72,8 @@ from_the_left = record {
 }
 
 --     _begin _integer _procedure n(b); _value b; _boolean b; n := _if b _then 1 _else 0;
---     outinteger(n(1<2)); outinteger(n(2<=1)); outinteger(n(3=3)); outinteger(n(3>=4)); outinteger(n(4>3)); outinteger(n(4<>4)) _end
+--     outinteger(n(1<2)); outinteger(n(2<=1)); outinteger(n(3=3)); outinteger(n(3>=4)); outinteger(n(4>3)); outinteger(n(4<>4))
+--     _end
 abbrev pub relations : Example
 relations = record {
   program = (MkProgram []
@@ -76,7 +86,8 @@ relations = record {
       (Assign (record { left = (OneName (name 8 1)); becomes = 1 }) []
       (IfExpr 1 (alone 9 1) 1
       (OneImplication
-      (OneDisjunction (OneConjunction (OneNegation (OneRelation (OneArithmetic (OneTerm (OneFactor (OnePrimary (Numeral 1 1))))))))))
+      (OneDisjunction (OneConjunction (OneNegation (OneRelation (OneArithmetic (OneTerm (OneFactor (OnePrimary
+      (Numeral 1 1))))))))))
       1 (number 0 1))))) 1 NoDeclarations
       (plainly
       (CallStatement
@@ -170,7 +181,8 @@ logical = record {
       (Assign (record { left = (OneName (name 8 1)); becomes = 1 }) []
       (IfExpr 1 (alone 9 1) 1
       (OneImplication
-      (OneDisjunction (OneConjunction (OneNegation (OneRelation (OneArithmetic (OneTerm (OneFactor (OnePrimary (Numeral 1 1))))))))))
+      (OneDisjunction (OneConjunction (OneNegation (OneRelation (OneArithmetic (OneTerm (OneFactor (OnePrimary
+      (Numeral 1 1))))))))))
       1 (number 0 1))))) 1 NoDeclarations
       (plainly
       (CallStatement
@@ -235,7 +247,8 @@ logical = record {
       (simple_expr
       (Equivalent
       (OneImplication
-      (OneDisjunction (OneConjunction (OneNegation (OneRelation (OneArithmetic (OneTerm (OneFactor (OnePrimary (Logical true 3))))))))))
+      (OneDisjunction (OneConjunction (OneNegation (OneRelation (OneArithmetic (OneTerm (OneFactor (OnePrimary
+      (Logical true 3))))))))))
       3
       (OneDisjunction
       (OneConjunction (OneNegation (OneRelation (OneArithmetic (OneTerm (OneFactor (OnePrimary (Logical false 3))))))))))))
@@ -279,7 +292,8 @@ standard = record {
       (WithActuals (name 0 1) 1
       (OneExpr
       (only
-      (OneCall (WithActuals (name 6 1) 1 (OneExpr (sum_expr (Signed Subtract 1 (OneFactor (OnePrimary (Numeral 5 1)))))) NoActuals 1))))
+      (OneCall (WithActuals (name 6 1) 1
+      (OneExpr (sum_expr (Signed Subtract 1 (OneFactor (OnePrimary (Numeral 5 1)))))) NoActuals 1))))
       NoActuals 1)))
       (MoreStatements 1
       (plainly
@@ -287,13 +301,16 @@ standard = record {
       (WithActuals (name 0 1) 1
       (OneExpr
       (only
-      (OneCall (WithActuals (name 7 1) 1 (OneExpr (sum_expr (Signed Subtract 1 (OneFactor (OnePrimary (Numeral 5 1)))))) NoActuals 1))))
+      (OneCall (WithActuals (name 7 1) 1
+      (OneExpr (sum_expr (Signed Subtract 1 (OneFactor (OnePrimary (Numeral 5 1)))))) NoActuals 1))))
       NoActuals 1)))
       (MoreStatements 1
       (plainly
       (CallStatement
-      (WithActuals (name 0 1) 1 (OneExpr (only (OneCall (WithActuals (name 7 1) 1 (OneExpr (number 0 1)) NoActuals 1)))) NoActuals 1)))
-      (MoreStatements 1 (plainly (CallStatement (WithActuals (name 1 1) 1 (AString 1 (byte 111 1 ∷ byte 107 1 ∷ []) 1) NoActuals 1)))
+      (WithActuals (name 0 1) 1
+      (OneExpr (only (OneCall (WithActuals (name 7 1) 1 (OneExpr (number 0 1)) NoActuals 1)))) NoActuals 1)))
+      (MoreStatements 1
+      (plainly (CallStatement (WithActuals (name 1 1) 1 (AString 1 (byte 111 1 ∷ byte 107 1 ∷ []) 1) NoActuals 1)))
       (MoreStatements 1 (plainly (CallStatement (WithActuals (name 3 1) 1 (OneExpr (number 33 1)) NoActuals 1))) NoStatements))))
       1) 1);
   unread = [];
@@ -376,7 +393,8 @@ spill_of_a_sign = record {
       (WithActuals (name 0 1) 1
       (OneExpr
       (sum_expr
-      (Summed (Signed Subtract 1 (OneFactor (OnePrimary (Numeral 549755813887 1)))) Subtract 1 (OneFactor (OnePrimary (Numeral 1 1))))))
+      (Summed (Signed Subtract 1 (OneFactor (OnePrimary (Numeral 549755813887 1)))) Subtract 1 (OneFactor
+      (OnePrimary (Numeral 1 1))))))
       NoActuals 1)))
       (MoreStatements 1
       (plainly
@@ -389,7 +407,8 @@ spill_of_a_sign = record {
       (OnePrimary
       (Bracketed 3
       (sum_expr
-      (Summed (Signed Subtract 3 (OneFactor (OnePrimary (Numeral 549755813887 3)))) Subtract 3 (OneFactor (OnePrimary (Numeral 1 3)))))
+      (Summed (Signed Subtract 3 (OneFactor (OnePrimary (Numeral 549755813887 3)))) Subtract 3 (OneFactor
+      (OnePrimary (Numeral 1 3)))))
       3)))))) NoActuals 3))) NoStatements) 3) 3);
   unread = [];
   permitted = 60;
@@ -412,7 +431,8 @@ spill_of_abs = record {
       (WithActuals (name 6 2) 2
       (OneExpr
       (sum_expr
-      (Summed (Signed Subtract 2 (OneFactor (OnePrimary (Numeral 549755813887 2)))) Subtract 2 (OneFactor (OnePrimary (Numeral 1 2))))))
+      (Summed (Signed Subtract 2 (OneFactor (OnePrimary (Numeral 549755813887 2)))) Subtract 2 (OneFactor
+      (OnePrimary (Numeral 1 2))))))
       NoActuals 2)))) NoActuals 2))) NoStatements 2) 2);
   unread = [];
   permitted = 60;

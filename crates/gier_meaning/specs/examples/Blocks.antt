@@ -1,11 +1,20 @@
 -- Blocks, arrays and own quantities (Report 4.1, 5.1, 5.2).
 use Rattle.std.specs.Prelude.{[], ◌∷◌, codes, Some, None, true}
-use Rattle.gier_tree.specs.Trees.{MkNames, MkPair, MkSegment, Add, Subtract, Multiply, MoreThan, OneNegation, Both, OneRelation, Negated, OneArithmetic, Compared, OneTerm, Signed, Summed, OneFactor, Multiplied, OnePrimary, Numeral, Logical, OneCall, OneElement, Alone, WithActuals, Subscripted, OneExpr, NoActuals, NoExprs, MoreExprs, only, NoFormals, FormalList, NoValues, ValueList, ValueSpec, ArraySpec, MkHeading, OneName, LeftElement, OneValue, StepUntil, DeclareType, DeclareOwn, DeclareArrays, DeclareProcedure, NoDeclarations, MoreDeclarations, MkBlock, MkCompound, NoStatements, MoreStatements, OneConditional, OneLoop, MkUnconditional, OneGroup, Assign, CallStatement, Dummy, IfThen, MkLoop, MkProgram}
+use Rattle.gier_tree.specs.Trees.{MkNames, MkPair, MkSegment, Add, Subtract, Multiply, MoreThan, OneNegation, Both, OneRelation}
+use Rattle.gier_tree.specs.Trees.{Negated, OneArithmetic, Compared, OneTerm, Signed, Summed, OneFactor, Multiplied, OnePrimary}
+use Rattle.gier_tree.specs.Trees.{Numeral, Logical, OneCall, OneElement, Alone, WithActuals, Subscripted, OneExpr, NoActuals}
+use Rattle.gier_tree.specs.Trees.{NoExprs, MoreExprs, only, NoFormals, FormalList, NoValues, ValueList, ValueSpec, ArraySpec}
+use Rattle.gier_tree.specs.Trees.{MkHeading, OneName, LeftElement, OneValue, StepUntil, DeclareType, DeclareOwn, DeclareArrays}
+use Rattle.gier_tree.specs.Trees.{DeclareProcedure, NoDeclarations, MoreDeclarations, MkBlock, MkCompound, NoStatements}
+use Rattle.gier_tree.specs.Trees.{MoreStatements, OneConditional, OneLoop, MkUnconditional, OneGroup, Assign, CallStatement}
+use Rattle.gier_tree.specs.Trees.{Dummy, IfThen, MkLoop, MkProgram}
 use Rattle.gier_word.specs.declared.alarm.Alarm.TheVariants.{Bounds, Subscript, Stack}
 use Rattle.gier_meaning.specs.Live.{InProgram, InBlock, InProcedure}
 use Rattle.gier_meaning.specs.Outcome.{Alarmed}
 use Rattle.gier_meaning.specs.Observation.{Ended, Stopped}
-use Rattle.gier_meaning.specs.Example.{Example, told_as, live, stop_at, name, comma_name, integer_word, boolean_word, conjunction_expr, negation_expr, relation_expr, sum_expr, term_expr, number, alone, plainly}
+use Rattle.gier_meaning.specs.Example.{Example, told_as, live, stop_at, name, comma_name, integer_word, boolean_word}
+use Rattle.gier_meaning.specs.Example.{conjunction_expr, negation_expr, relation_expr, sum_expr, term_expr, number, alone}
+use Rattle.gier_meaning.specs.Example.{plainly}
 
 --     _begin _integer i; _for i := 1, 2 _do _begin _integer a; outinteger(a); a := 7 _end _end
 abbrev pub fresh_each_time : Example
@@ -39,7 +48,8 @@ hides = record {
       (plainly (Assign (record { left = (OneName (name 8 1)); becomes = 1 }) [] (only (Logical true 1))))
       (MoreStatements 1
       (OneConditional
-      (IfThen [] 1 (alone 8 1) 1 (MkUnconditional [] (CallStatement (WithActuals (name 3 1) 1 (OneExpr (number 116 1)) NoActuals 1)))))
+      (IfThen [] 1 (alone 8 1) 1 (MkUnconditional [] (CallStatement (WithActuals (name 3 1) 1
+      (OneExpr (number 116 1)) NoActuals 1)))))
       NoStatements) 1)))
       (MoreStatements 1 (plainly (CallStatement (WithActuals (name 0 1) 1 (OneExpr (alone 8 1)) NoActuals 1))) NoStatements))
       1) 1);
@@ -49,7 +59,8 @@ hides = record {
   told = told_as (codes "t1") Ended 2 13 ([]) None;
 }
 
---     _begin _integer n; n := 3; _begin _integer _array a[1:n, -1:n-2]; _integer i; _for i := 1 _step 1 _until n _do a[i, i-2] := i*i;
+--     _begin _integer n; n := 3; _begin _integer _array a[1:n, -1:n-2]; _integer i; _for i := 1 _step 1 _until n _do a[i, i-2]
+--     := i*i;
 --     outinteger(a[3, 1]); outinteger(a[2, 0]); outinteger(a[1, 1]) _end _end
 abbrev pub dynamic_array : Example
 dynamic_array = record {
@@ -67,7 +78,8 @@ dynamic_array = record {
         pair =
             (MkPair (sum_expr (Signed Subtract 1 (OneFactor (OnePrimary (Numeral 1 1))))) 1
             (sum_expr
-            (Summed (OneTerm (OneFactor (OnePrimary (OneCall (Alone (name 8 1)))))) Subtract 1 (OneFactor (OnePrimary (Numeral 2 1))))));
+            (Summed (OneTerm (OneFactor (OnePrimary (OneCall (Alone (name 8 1)))))) Subtract 1 (OneFactor
+            (OnePrimary (Numeral 2 1))))));
       } ∷ []) 1) []) 1
       (MoreDeclarations (DeclareType (integer_word 1) (MkNames (name 10 1) [])) 1 NoDeclarations)
       (OneLoop
@@ -80,7 +92,8 @@ dynamic_array = record {
             (Subscripted (name 9 1) 1 (alone 10 1)
             (MoreExprs 1
             (sum_expr
-            (Summed (OneTerm (OneFactor (OnePrimary (OneCall (Alone (name 10 1)))))) Subtract 1 (OneFactor (OnePrimary (Numeral 2 1)))))
+            (Summed (OneTerm (OneFactor (OnePrimary (OneCall (Alone (name 10 1)))))) Subtract 1 (OneFactor
+            (OnePrimary (Numeral 2 1)))))
             NoExprs) 1));
         becomes = 1;
       }) []
@@ -110,7 +123,8 @@ dynamic_array = record {
   told = told_as (codes "940") Ended 5 31 ([]) None;
 }
 
---     _begin _integer _procedure f; _begin outchar(102); f := 2 _end; _begin _integer _array a, b[1:f], c[f:f]; a[1] := 1; b[1] := 2; outinteger(a[1]); outinteger(b[1]); outinteger(c[2]) _end _end
+--     _begin _integer _procedure f; _begin outchar(102); f := 2 _end; _begin _integer _array a, b[1:f], c[f:f]; a[1] := 1; b[1]
+--     := 2; outinteger(a[1]); outinteger(b[1]); outinteger(c[2]) _end _end
 abbrev pub bounds_once : Example
 bounds_once = record {
   program = (MkProgram []
@@ -156,7 +170,8 @@ bounds_once = record {
 abbrev pub boolean_array : Example
 boolean_array = record {
   program = (MkProgram []
-      (MkBlock 1 (DeclareArrays (boolean_word 1) 1 (MkSegment (MkNames (name 8 1) []) 1 (MkPair (number 0 1) 1 (number 1 1)) [] 1) [])
+      (MkBlock 1
+      (DeclareArrays (boolean_word 1) 1 (MkSegment (MkNames (name 8 1) []) 1 (MkPair (number 0 1) 1 (number 1 1)) [] 1) [])
       1 NoDeclarations
       (plainly
       (Assign (record { left = (LeftElement (Subscripted (name 8 1) 1 (number 1 1) NoExprs 1)); becomes = 1 }) []
@@ -167,9 +182,11 @@ boolean_array = record {
       (conjunction_expr
       (Both
       (OneNegation
-      (OneRelation (OneArithmetic (OneTerm (OneFactor (OnePrimary (OneElement (Subscripted (name 8 1) 1 (number 1 1) NoExprs 1))))))))
+      (OneRelation (OneArithmetic (OneTerm (OneFactor (OnePrimary (OneElement (Subscripted (name 8 1) 1
+      (number 1 1) NoExprs 1))))))))
       1
-      (Negated 1 (OneArithmetic (OneTerm (OneFactor (OnePrimary (OneElement (Subscripted (name 8 1) 1 (number 0 1) NoExprs 1)))))))))
+      (Negated 1 (OneArithmetic (OneTerm (OneFactor (OnePrimary (OneElement (Subscripted (name 8 1) 1
+      (number 0 1) NoExprs 1)))))))))
       1 (MkUnconditional [] (CallStatement (WithActuals (name 3 1) 1 (OneExpr (number 98 1)) NoActuals 1)))))
       NoStatements) 1) 1);
   unread = [];
@@ -184,7 +201,8 @@ boolean_array = record {
 abbrev pub subscript_below : Example
 subscript_below = record {
   program = (MkProgram []
-      (MkBlock 1 (DeclareArrays (integer_word 1) 1 (MkSegment (MkNames (name 8 1) []) 1 (MkPair (number 1 1) 1 (number 2 1)) [] 1) [])
+      (MkBlock 1
+      (DeclareArrays (integer_word 1) 1 (MkSegment (MkNames (name 8 1) []) 1 (MkPair (number 1 1) 1 (number 2 1)) [] 1) [])
       1 NoDeclarations
       (plainly
       (Assign (record { left = (LeftElement (Subscripted (name 8 1) 1 (number 1 1) NoExprs 1)); becomes = 1 }) [] (number 5 1)))
@@ -233,7 +251,8 @@ subscript_above = record {
 abbrev pub subscripts_of_another_number : Example
 subscripts_of_another_number = record {
   program = (MkProgram []
-      (MkBlock 1 (DeclareArrays (integer_word 1) 1 (MkSegment (MkNames (name 8 1) []) 1 (MkPair (number 1 1) 1 (number 2 1)) [] 1) [])
+      (MkBlock 1
+      (DeclareArrays (integer_word 1) 1 (MkSegment (MkNames (name 8 1) []) 1 (MkPair (number 1 1) 1 (number 2 1)) [] 1) [])
       1
       (MoreDeclarations
       (DeclareProcedure
@@ -248,7 +267,8 @@ subscripts_of_another_number = record {
   unread = [];
   permitted = 60;
   limit = 400;
-  told = told_as ([]) (Stopped (Alarmed Subscript)) 2 24 ([]) (stop_at (live (InProcedure 3) 10 ∷ live InBlock 11 ∷ live InProgram 3 ∷ []) 2);
+  told = told_as ([]) (Stopped (Alarmed Subscript)) 2 24 ([])
+      (stop_at (live (InProcedure 3) 10 ∷ live InBlock 11 ∷ live InProgram 3 ∷ []) 2);
 }
 
 --     _begin _integer n; _begin
@@ -302,8 +322,10 @@ own_counter = record {
       (plainly
       (Assign (record { left = (OneName (name 4294967296 1)); becomes = 1 }) []
       (sum_expr
-      (Summed (OneTerm (OneFactor (OnePrimary (OneCall (Alone (name 4294967296 1)))))) Add 1 (OneFactor (OnePrimary (Numeral 1 1)))))))
-      (MoreStatements 1 (plainly (CallStatement (WithActuals (name 0 1) 1 (OneExpr (alone 4294967296 1)) NoActuals 1))) NoStatements)
+      (Summed (OneTerm (OneFactor (OnePrimary (OneCall (Alone (name 4294967296 1)))))) Add 1 (OneFactor
+      (OnePrimary (Numeral 1 1)))))))
+      (MoreStatements 1
+      (plainly (CallStatement (WithActuals (name 0 1) 1 (OneExpr (alone 4294967296 1)) NoActuals 1))) NoStatements)
       1)))) 1 NoDeclarations (plainly (CallStatement (Alone (name 8 1))))
       (MoreStatements 1 (plainly (CallStatement (Alone (name 8 1))))
       (MoreStatements 1 (plainly (CallStatement (Alone (name 8 1)))) NoStatements)) 1))) NoStatements 1) 1);
@@ -313,7 +335,8 @@ own_counter = record {
   told = told_as (codes "123") Ended 8 20 ([]) None;
 }
 
---     _begin _procedure q; _begin _own _integer _array a[0:1]; a[0] := a[0] + 1; a[1] := a[0] * a[0]; outinteger(a[1]) _end; q; q _end
+--     _begin _procedure q; _begin _own _integer _array a[0:1]; a[0] := a[0] + 1; a[1] := a[0] * a[0]; outinteger(a[1]) _end; q;
+--     q _end
 abbrev pub own_array : Example
 own_array = record {
   program = (MkProgram []
@@ -341,7 +364,8 @@ own_array = record {
       (MoreStatements 1
       (plainly
       (CallStatement
-      (WithActuals (name 0 1) 1 (OneExpr (only (OneElement (Subscripted (name 4294967296 1) 1 (number 1 1) NoExprs 1)))) NoActuals 1)))
+      (WithActuals (name 0 1) 1
+      (OneExpr (only (OneElement (Subscripted (name 4294967296 1) 1 (number 1 1) NoExprs 1)))) NoActuals 1)))
       NoStatements)) 1)))) 1 NoDeclarations (plainly (CallStatement (Alone (name 8 1))))
       (MoreStatements 1 (plainly (CallStatement (Alone (name 8 1)))) NoStatements) 1))) NoStatements 1) 1);
   unread = [];
@@ -350,7 +374,8 @@ own_array = record {
   told = told_as (codes "14") Ended 6 29 ([]) None;
 }
 
---     _begin _procedure r(n); _value n; _integer n; _begin _own _boolean b; _integer c; _if _not b _then outinteger(n); b := _not b; _if n > 0 _then r(n-1) _end; r(3) _end
+--     _begin _procedure r(n); _value n; _integer n; _begin _own _boolean b; _integer c; _if _not b _then outinteger(n); b :=
+--     _not b; _if n > 0 _then r(n-1) _end; r(3) _end
 abbrev pub own_in_recursion : Example
 own_in_recursion = record {
   program = (MkProgram []

@@ -1,11 +1,19 @@
 -- Formals by name (Report 4.7.3.2): Jensen's device, side effects, addresses.
 use Rattle.std.specs.Prelude.{[], ◌∷◌, codes, Some, None}
-use Rattle.gier_tree.specs.Trees.{MkNames, MkPair, MkSegment, Add, Subtract, Multiply, Divide, AtMost, EqualTo, Negated, OneArithmetic, Compared, OneTerm, Signed, Summed, OneFactor, Multiplied, OnePrimary, Numeral, Bracketed, OneCall, OneElement, Alone, WithActuals, Subscripted, OneExpr, NoActuals, MoreActuals, NoExprs, only, NoFormals, FormalList, NoValues, ValueList, ValueSpec, MkHeading, OneName, LeftElement, StepUntil, DeclareType, DeclareArrays, DeclareProcedure, NoDeclarations, MoreDeclarations, MkBlock, MkCompound, NoStatements, MoreStatements, OneUnconditional, OneConditional, OneLoop, MkUnconditional, OneGroup, Assign, Jump, CallStatement, IfThen, IfElse, MkLoop, MkProgram}
+use Rattle.gier_tree.specs.Trees.{MkNames, MkPair, MkSegment, Add, Subtract, Multiply, Divide, AtMost, EqualTo, Negated}
+use Rattle.gier_tree.specs.Trees.{OneArithmetic, Compared, OneTerm, Signed, Summed, OneFactor, Multiplied, OnePrimary, Numeral}
+use Rattle.gier_tree.specs.Trees.{Bracketed, OneCall, OneElement, Alone, WithActuals, Subscripted, OneExpr, NoActuals}
+use Rattle.gier_tree.specs.Trees.{MoreActuals, NoExprs, only, NoFormals, FormalList, NoValues, ValueList, ValueSpec, MkHeading}
+use Rattle.gier_tree.specs.Trees.{OneName, LeftElement, StepUntil, DeclareType, DeclareArrays, DeclareProcedure, NoDeclarations}
+use Rattle.gier_tree.specs.Trees.{MoreDeclarations, MkBlock, MkCompound, NoStatements, MoreStatements, OneUnconditional}
+use Rattle.gier_tree.specs.Trees.{OneConditional, OneLoop, MkUnconditional, OneGroup, Assign, Jump, CallStatement, IfThen, IfElse}
+use Rattle.gier_tree.specs.Trees.{MkLoop, MkProgram}
 use Rattle.gier_word.specs.declared.alarm.Alarm.TheVariants.{Assignment}
 use Rattle.gier_meaning.specs.Live.{InProgram, InBlock, InProcedure, InEvaluation}
 use Rattle.gier_meaning.specs.Outcome.{Alarmed}
 use Rattle.gier_meaning.specs.Observation.{Ended, Stopped}
-use Rattle.gier_meaning.specs.Example.{Example, told_as, live, stop_at, name, comma_name, label_place, integer_word, boolean_word, negation_expr, relation_expr, sum_expr, term_expr, number, alone, plainly}
+use Rattle.gier_meaning.specs.Example.{Example, told_as, live, stop_at, name, comma_name, label_place, integer_word, boolean_word}
+use Rattle.gier_meaning.specs.Example.{negation_expr, relation_expr, sum_expr, term_expr, number, alone, plainly}
 
 --     _begin _integer i;
 --     _integer _procedure sum(k, l, u, t); _value l, u; _integer k, l, u, t;
@@ -111,7 +119,8 @@ swap = record {
   told = told_as (codes "221") Ended 7 38 ([]) None;
 }
 
---     _begin _integer c; _integer _procedure n; _begin c := c + 1; n := c _end; _procedure p(x); _integer x; _begin outinteger(x); outinteger(x + x) _end; p(n) _end
+--     _begin _integer c; _integer _procedure n; _begin c := c + 1; n := c _end; _procedure p(x); _integer x; _begin
+--     outinteger(x); outinteger(x + x) _end; p(n) _end
 abbrev pub each_use_evaluates : Example
 each_use_evaluates = record {
   program = (MkProgram []
@@ -123,7 +132,8 @@ each_use_evaluates = record {
       (MkCompound 1
       (plainly
       (Assign (record { left = (OneName (name 8 1)); becomes = 1 }) []
-      (sum_expr (Summed (OneTerm (OneFactor (OnePrimary (OneCall (Alone (name 8 1)))))) Add 1 (OneFactor (OnePrimary (Numeral 1 1)))))))
+      (sum_expr (Summed (OneTerm (OneFactor (OnePrimary (OneCall (Alone (name 8 1)))))) Add 1 (OneFactor
+      (OnePrimary (Numeral 1 1)))))))
       (MoreStatements 1 (plainly (Assign (record { left = (OneName (name 9 1)); becomes = 1 }) [] (alone 8 1))) NoStatements)
       1)))) 1
       (MoreDeclarations
@@ -169,7 +179,8 @@ no_use_no_evaluation = record {
   told = told_as (codes "p") Ended 2 15 ([]) None;
 }
 
---     _begin _integer a; _procedure p(x); _integer x; _begin _integer a; a := 5; outinteger(x); x := 7 _end; a := 3; p(a); outinteger(a) _end
+--     _begin _integer a; _procedure p(x); _integer x; _begin _integer a; a := 5; outinteger(x); x := 7 _end; a := 3; p(a);
+--     outinteger(a) _end
 abbrev pub place_of_the_call : Example
 place_of_the_call = record {
   program = (MkProgram []
@@ -195,7 +206,8 @@ place_of_the_call = record {
   told = told_as (codes "37") Ended 5 26 ([]) None;
 }
 
---     _begin _integer a; _procedure p(x); _integer x; x := x + 1; _procedure q(y); _integer y; _begin p(y); p(y) _end; q(a); outinteger(a) _end
+--     _begin _integer a; _procedure p(x); _integer x; x := x + 1; _procedure q(y); _integer y; _begin p(y); p(y) _end; q(a);
+--     outinteger(a) _end
 abbrev pub name_of_a_name : Example
 name_of_a_name = record {
   program = (MkProgram []
@@ -206,7 +218,8 @@ name_of_a_name = record {
       (record { specifier = (ValueSpec (integer_word 1)); names = (MkNames (name 10 1) []); semicolon = 1 } ∷ []))
       (plainly
       (Assign (record { left = (OneName (name 10 1)); becomes = 1 }) []
-      (sum_expr (Summed (OneTerm (OneFactor (OnePrimary (OneCall (Alone (name 10 1)))))) Add 1 (OneFactor (OnePrimary (Numeral 1 1))))))))
+      (sum_expr (Summed (OneTerm (OneFactor (OnePrimary (OneCall (Alone (name 10 1)))))) Add 1 (OneFactor (OnePrimary
+      (Numeral 1 1))))))))
       1
       (MoreDeclarations
       (DeclareProcedure
@@ -226,7 +239,8 @@ name_of_a_name = record {
   told = told_as (codes "2") Ended 12 37 ([]) None;
 }
 
---     _begin _integer _procedure f(x); _integer x; _begin f := x; x := 5 _end; _integer a; a := 2; outinteger(f(a)); outinteger(a); outinteger(f((a))) _end
+--     _begin _integer _procedure f(x); _integer x; _begin f := x; x := 5 _end; _integer a; a := 2; outinteger(f(a));
+--     outinteger(a); outinteger(f((a))) _end
 abbrev pub changes_its_formal : Example
 changes_its_formal = record {
   program = (MkProgram []
@@ -243,7 +257,8 @@ changes_its_formal = record {
       (MoreStatements 1
       (plainly
       (CallStatement
-      (WithActuals (name 0 1) 1 (OneExpr (only (OneCall (WithActuals (name 8 1) 1 (OneExpr (alone 10 1)) NoActuals 1)))) NoActuals 1)))
+      (WithActuals (name 0 1) 1
+      (OneExpr (only (OneCall (WithActuals (name 8 1) 1 (OneExpr (alone 10 1)) NoActuals 1)))) NoActuals 1)))
       (MoreStatements 1 (plainly (CallStatement (WithActuals (name 0 1) 1 (OneExpr (alone 10 1)) NoActuals 1)))
       (MoreStatements 1
       (plainly
@@ -254,10 +269,12 @@ changes_its_formal = record {
   unread = [];
   permitted = 60;
   limit = 400;
-  told = told_as (codes "25") (Stopped (Alarmed Assignment)) 7 23 ([]) (stop_at (live (InEvaluation 1) 5 ∷ live (InProcedure 1) 9 ∷ live InBlock 6 ∷ live InProgram 3 ∷ []) 1);
+  told = told_as (codes "25") (Stopped (Alarmed Assignment)) 7 23 ([])
+      (stop_at (live (InEvaluation 1) 5 ∷ live (InProcedure 1) 9 ∷ live InBlock 6 ∷ live InProgram 3 ∷ []) 1);
 }
 
---     _begin _integer i; _procedure until(b); _boolean b; _begin L: i := i + 1; _if _not b _then _goto L _end; until(i = 3); outinteger(i) _end
+--     _begin _integer i; _procedure until(b); _boolean b; _begin L: i := i + 1; _if _not b _then _goto L _end; until(i = 3);
+--     outinteger(i) _end
 abbrev pub boolean_by_name : Example
 boolean_by_name = record {
   program = (MkProgram []
@@ -272,7 +289,8 @@ boolean_by_name = record {
       (OneUnconditional
       (MkUnconditional (label_place 11 1 1 ∷ [])
       (Assign (record { left = (OneName (name 8 1)); becomes = 1 }) []
-      (sum_expr (Summed (OneTerm (OneFactor (OnePrimary (OneCall (Alone (name 8 1)))))) Add 1 (OneFactor (OnePrimary (Numeral 1 1))))))))
+      (sum_expr (Summed (OneTerm (OneFactor (OnePrimary (OneCall (Alone (name 8 1)))))) Add 1 (OneFactor (OnePrimary
+      (Numeral 1 1))))))))
       (MoreStatements 1
       (OneConditional
       (IfThen [] 1 (negation_expr (Negated 1 (OneArithmetic (OneTerm (OneFactor (OnePrimary (OneCall (Alone (name 10 1))))))))) 1
@@ -313,7 +331,8 @@ no_variable = record {
   unread = [];
   permitted = 60;
   limit = 400;
-  told = told_as ([]) (Stopped (Alarmed Assignment)) 3 22 ([]) (stop_at (live (InEvaluation 3) 6 ∷ live (InProcedure 4) 8 ∷ live InBlock 5 ∷ live InProgram 3 ∷ []) 3);
+  told = told_as ([]) (Stopped (Alarmed Assignment)) 3 22 ([])
+      (stop_at (live (InEvaluation 3) 6 ∷ live (InProcedure 4) 8 ∷ live InBlock 5 ∷ live InProgram 3 ∷ []) 3);
 }
 
 --     _begin
@@ -346,14 +365,18 @@ no_variable_behind_a_name = record {
   unread = [];
   permitted = 60;
   limit = 400;
-  told = told_as ([]) (Stopped (Alarmed Assignment)) 5 36 ([]) (stop_at (live (InEvaluation 6) 6 ∷ live (InEvaluation 3) 5 ∷ live (InProcedure 5) 8 ∷ live (InProcedure 7) 9 ∷ live InBlock 5 ∷ live InProgram 3 ∷ []) 6);
+  told = told_as ([]) (Stopped (Alarmed Assignment)) 5 36 ([])
+      (stop_at (live (InEvaluation 6) 6 ∷ live (InEvaluation 3) 5 ∷ live (InProcedure 5) 8 ∷ live (InProcedure 7) 9
+      ∷ live InBlock 5 ∷ live InProgram 3 ∷ []) 6);
 }
 
---     _begin _integer _array a[1:3]; _integer k; _procedure p(x); _integer x; _begin k := 2; x := 4; k := 3; x := 6 _end; p(a[k]); outinteger(a[2]); outinteger(a[3]) _end
+--     _begin _integer _array a[1:3]; _integer k; _procedure p(x); _integer x; _begin k := 2; x := 4; k := 3; x := 6 _end;
+--     p(a[k]); outinteger(a[2]); outinteger(a[3]) _end
 abbrev pub name_in_a_subscript : Example
 name_in_a_subscript = record {
   program = (MkProgram []
-      (MkBlock 1 (DeclareArrays (integer_word 1) 1 (MkSegment (MkNames (name 8 1) []) 1 (MkPair (number 1 1) 1 (number 3 1)) [] 1) [])
+      (MkBlock 1
+      (DeclareArrays (integer_word 1) 1 (MkSegment (MkNames (name 8 1) []) 1 (MkPair (number 1 1) 1 (number 3 1)) [] 1) [])
       1
       (MoreDeclarations (DeclareType (integer_word 1) (MkNames (name 9 1) [])) 1
       (MoreDeclarations
@@ -385,7 +408,8 @@ name_in_a_subscript = record {
   told = told_as (codes "46") Ended 4 31 ([]) None;
 }
 
---     _begin _integer _procedure f; _begin f := 1; _goto L _end; _procedure p(x); _integer x; _begin outchar(97); outinteger(x); outchar(98) _end; p(1 + f); outchar(99); L: outchar(100) _end
+--     _begin _integer _procedure f; _begin f := 1; _goto L _end; _procedure p(x); _integer x; _begin outchar(97);
+--     outinteger(x); outchar(98) _end; p(1 + f); outchar(99); L: outchar(100) _end
 abbrev pub out_of_an_evaluation : Example
 out_of_an_evaluation = record {
   program = (MkProgram []
@@ -409,7 +433,8 @@ out_of_an_evaluation = record {
       (CallStatement
       (WithActuals (name 10 1) 1
       (OneExpr
-      (sum_expr (Summed (OneTerm (OneFactor (OnePrimary (Numeral 1 1)))) Add 1 (OneFactor (OnePrimary (OneCall (Alone (name 8 1))))))))
+      (sum_expr (Summed (OneTerm (OneFactor (OnePrimary (Numeral 1 1)))) Add 1 (OneFactor (OnePrimary (OneCall
+      (Alone (name 8 1))))))))
       NoActuals 1)))
       (MoreStatements 1 (plainly (CallStatement (WithActuals (name 3 1) 1 (OneExpr (number 99 1)) NoActuals 1)))
       (MoreStatements 1
@@ -440,7 +465,8 @@ man_or_boy = record {
       (record {
         specifier = (ValueSpec (integer_word 2));
         names =
-            (MkNames (name 9 2) (comma_name 2 10 2 ∷ comma_name 2 11 2 ∷ comma_name 2 12 2 ∷ comma_name 2 13 2 ∷ comma_name 2 14 2 ∷ []));
+            (MkNames (name 9 2) (comma_name 2 10 2 ∷ comma_name 2 11 2 ∷ comma_name 2 12 2 ∷ comma_name 2 13 2
+            ∷ comma_name 2 14 2 ∷ []));
         semicolon = 2;
       } ∷ []))
       (plainly
@@ -462,7 +488,8 @@ man_or_boy = record {
       (WithActuals (name 8 4) 4 (OneExpr (alone 9 4))
       (MoreActuals 4 (OneExpr (alone 15 4))
       (MoreActuals 4 (OneExpr (alone 10 4))
-      (MoreActuals 4 (OneExpr (alone 11 4)) (MoreActuals 4 (OneExpr (alone 12 4)) (MoreActuals 4 (OneExpr (alone 13 4)) NoActuals)))))
+      (MoreActuals 4 (OneExpr (alone 11 4)) (MoreActuals 4 (OneExpr (alone 12 4)) (MoreActuals 4
+      (OneExpr (alone 13 4)) NoActuals)))))
       4))))) NoStatements) 4)))) 4 NoDeclarations
       (OneConditional
       (IfElse [] 5

@@ -1,11 +1,18 @@
 -- For statements (Report 4.6).
 use Rattle.std.specs.Prelude.{[], ◌∷◌, codes, Some, None, false}
-use Rattle.gier_tree.specs.Trees.{MkNames, MkPair, MkSegment, Add, Subtract, Multiply, LessThan, EqualTo, Compared, OneTerm, Signed, Summed, OneFactor, Multiplied, OnePrimary, Numeral, Logical, OneCall, OneElement, Alone, WithActuals, Subscripted, OneExpr, NoActuals, NoExprs, only, NoFormals, FormalList, NoValues, ValueSpec, LabelSpec, MkHeading, OneName, OneValue, StepUntil, WhileTrue, DeclareType, DeclareArrays, DeclareProcedure, NoDeclarations, MoreDeclarations, MkBlock, MkCompound, NoStatements, MoreStatements, OneUnconditional, OneConditional, OneLoop, MkUnconditional, OneGroup, Assign, Jump, CallStatement, Dummy, IfThen, MkLoop, MkProgram}
+use Rattle.gier_tree.specs.Trees.{MkNames, MkPair, MkSegment, Add, Subtract, Multiply, LessThan, EqualTo, Compared, OneTerm}
+use Rattle.gier_tree.specs.Trees.{Signed, Summed, OneFactor, Multiplied, OnePrimary, Numeral, Logical, OneCall, OneElement, Alone}
+use Rattle.gier_tree.specs.Trees.{WithActuals, Subscripted, OneExpr, NoActuals, NoExprs, only, NoFormals, FormalList, NoValues}
+use Rattle.gier_tree.specs.Trees.{ValueSpec, LabelSpec, MkHeading, OneName, OneValue, StepUntil, WhileTrue, DeclareType}
+use Rattle.gier_tree.specs.Trees.{DeclareArrays, DeclareProcedure, NoDeclarations, MoreDeclarations, MkBlock, MkCompound}
+use Rattle.gier_tree.specs.Trees.{NoStatements, MoreStatements, OneUnconditional, OneConditional, OneLoop, MkUnconditional}
+use Rattle.gier_tree.specs.Trees.{OneGroup, Assign, Jump, CallStatement, Dummy, IfThen, MkLoop, MkProgram}
 use Rattle.gier_word.specs.declared.alarm.Alarm.TheVariants.{Spill}
 use Rattle.gier_meaning.specs.Live.{InProgram, InBlock}
 use Rattle.gier_meaning.specs.Outcome.{Alarmed, NoStepLeft}
 use Rattle.gier_meaning.specs.Observation.{Ended, Stopped}
-use Rattle.gier_meaning.specs.Example.{Example, told_as, live, stop_at, name, comma_name, label_place, integer_word, relation_expr, sum_expr, number, alone, plainly}
+use Rattle.gier_meaning.specs.Example.{Example, told_as, live, stop_at, name, comma_name, label_place, integer_word}
+use Rattle.gier_meaning.specs.Example.{relation_expr, sum_expr, number, alone, plainly}
 
 --     _begin _integer i, s; _for i := 1 _step 1 _until 3, 20, i + 1 _while i < 23 _do s := s + i; outinteger(s); outinteger(i) _end
 abbrev pub three_elements : Example
@@ -18,7 +25,8 @@ three_elements = record {
         comma = 1;
         turns =
             (WhileTrue
-            (sum_expr (Summed (OneTerm (OneFactor (OnePrimary (OneCall (Alone (name 8 1)))))) Add 1 (OneFactor (OnePrimary (Numeral 1 1)))))
+            (sum_expr (Summed (OneTerm (OneFactor (OnePrimary (OneCall (Alone (name 8 1)))))) Add 1 (OneFactor
+            (OnePrimary (Numeral 1 1)))))
             1
             (relation_expr
             (Compared (OneTerm (OneFactor (OnePrimary (OneCall (Alone (name 8 1)))))) LessThan 1
@@ -72,7 +80,8 @@ downward = record {
   told = told_as (codes "210-1") Ended 4 10 ([]) None;
 }
 
---     _begin _integer i; _integer _procedure g; _begin outchar(103); g := 2 _end; _for i := 1 _step g _until 5 _do outinteger(i); outinteger(i) _end
+--     _begin _integer i; _integer _procedure g; _begin outchar(103); g := 2 _end; _for i := 1 _step g _until 5 _do
+--     outinteger(i); outinteger(i) _end
 abbrev pub step_evaluated_twice : Example
 step_evaluated_twice = record {
   program = (MkProgram []
@@ -131,7 +140,8 @@ nested = record {
   told = told_as (codes "111222") Ended 6 12 ([]) None;
 }
 
---     _begin _integer i, j; _for i := 1, 2 _do _begin j := 0; L: j := j + 1; outinteger(j); _if j < i _then _goto L _end; outchar(101) _end
+--     _begin _integer i, j; _for i := 1, 2 _do _begin j := 0; L: j := j + 1; outinteger(j); _if j < i _then _goto L _end;
+--     outchar(101) _end
 abbrev pub label_in_a_turn : Example
 label_in_a_turn = record {
   program = (MkProgram []
@@ -145,7 +155,8 @@ label_in_a_turn = record {
       (OneUnconditional
       (MkUnconditional (label_place 10 1 1 ∷ [])
       (Assign (record { left = (OneName (name 9 1)); becomes = 1 }) []
-      (sum_expr (Summed (OneTerm (OneFactor (OnePrimary (OneCall (Alone (name 9 1)))))) Add 1 (OneFactor (OnePrimary (Numeral 1 1))))))))
+      (sum_expr (Summed (OneTerm (OneFactor (OnePrimary (OneCall (Alone (name 9 1)))))) Add 1 (OneFactor (OnePrimary
+      (Numeral 1 1))))))))
       (MoreStatements 1 (plainly (CallStatement (WithActuals (name 0 1) 1 (OneExpr (alone 9 1)) NoActuals 1)))
       (MoreStatements 1
       (OneConditional
@@ -189,7 +200,8 @@ ends_a_turn = record {
   told = told_as (codes "133") Ended 5 9 ([]) None;
 }
 
---     _begin _integer i; _for i := 1 _step 1 _until 9 _do _begin outinteger(i); _if i = 2 _then _goto L _end; outchar(97); L: outinteger(i) _end
+--     _begin _integer i; _for i := 1 _step 1 _until 9 _do _begin outinteger(i); _if i = 2 _then _goto L _end; outchar(97); L:
+--     outinteger(i) _end
 abbrev pub out_of_a_turn : Example
 out_of_a_turn = record {
   program = (MkProgram []
@@ -246,7 +258,8 @@ labels_of_two_turns = record {
       (WithActuals (name 0 2) 2
       (OneExpr
       (sum_expr
-      (Summed (OneTerm (Multiplied (OneFactor (OnePrimary (Numeral 10 2))) Multiply 2 (OnePrimary (OneCall (Alone (name 8 2)))))) Add
+      (Summed (OneTerm (Multiplied (OneFactor (OnePrimary (Numeral 10 2))) Multiply 2 (OnePrimary (OneCall
+      (Alone (name 8 2)))))) Add
       2 (OneFactor (OnePrimary (OneCall (Alone (name 9 2)))))))) NoActuals 2))))
       NoStatements)) 2))))))) NoStatements 2) 2);
   unread = [];
@@ -255,7 +268,8 @@ labels_of_two_turns = record {
   told = told_as (codes "p11p12p21p22") Ended 19 24 ([]) None;
 }
 
---     _begin _integer i, j; _for i := 1, 2 _do _begin _for j := 1 _do _begin _goto L; outchar(97); L: outinteger(j) _end; _goto L; outchar(98); L: outinteger(i) _end _end
+--     _begin _integer i, j; _for i := 1, 2 _do _begin _for j := 1 _do _begin _goto L; outchar(97); L: outinteger(j) _end; _goto
+--     L; outchar(98); L: outinteger(i) _end _end
 abbrev pub same_label_inside : Example
 same_label_inside = record {
   program = (MkProgram []
@@ -287,11 +301,13 @@ same_label_inside = record {
   told = told_as (codes "1112") Ended 9 11 ([]) None;
 }
 
---     _begin _integer _array a[1:2]; _integer k; _procedure p(v); _integer v; _for v := 1 _step 1 _until 2 _do outinteger(v); k := 1; p(a[k]); outinteger(a[1]) _end
+--     _begin _integer _array a[1:2]; _integer k; _procedure p(v); _integer v; _for v := 1 _step 1 _until 2 _do outinteger(v); k
+--     := 1; p(a[k]); outinteger(a[1]) _end
 abbrev pub variable_by_name : Example
 variable_by_name = record {
   program = (MkProgram []
-      (MkBlock 1 (DeclareArrays (integer_word 1) 1 (MkSegment (MkNames (name 8 1) []) 1 (MkPair (number 1 1) 1 (number 2 1)) [] 1) [])
+      (MkBlock 1
+      (DeclareArrays (integer_word 1) 1 (MkSegment (MkNames (name 8 1) []) 1 (MkPair (number 1 1) 1 (number 2 1)) [] 1) [])
       1
       (MoreDeclarations (DeclareType (integer_word 1) (MkNames (name 9 1) [])) 1
       (MoreDeclarations

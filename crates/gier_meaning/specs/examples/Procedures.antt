@@ -1,10 +1,19 @@
 -- Procedures, functions, formals by value, recursion (Report 4.7, 5.4).
 use Rattle.std.specs.Prelude.{[], ◌∷◌, codes, Some, None, true, false}
-use Rattle.gier_tree.specs.Trees.{MkNames, MkPair, MkSegment, Add, Subtract, LessThan, EqualTo, MoreThan, IfExpr, OneImplication, OneDisjunction, OneConjunction, OneNegation, Both, OneRelation, OneArithmetic, Compared, OneTerm, Summed, OneFactor, OnePrimary, Numeral, Logical, OneCall, OneElement, Alone, WithActuals, Subscripted, OneExpr, NoActuals, MoreActuals, NoExprs, only, NoFormals, FormalList, NoValues, ValueList, ValueSpec, MkHeading, OneName, LeftElement, DeclareType, DeclareArrays, DeclareProcedure, NoDeclarations, MoreDeclarations, MkBlock, MkCompound, NoStatements, MoreStatements, OneUnconditional, OneConditional, MkUnconditional, OneGroup, Assign, Jump, CallStatement, IfThen, MkProgram}
+use Rattle.gier_tree.specs.Trees.{MkNames, MkPair, MkSegment, Add, Subtract, LessThan, EqualTo, MoreThan, IfExpr, OneImplication}
+use Rattle.gier_tree.specs.Trees.{OneDisjunction, OneConjunction, OneNegation, Both, OneRelation, OneArithmetic, Compared}
+use Rattle.gier_tree.specs.Trees.{OneTerm, Summed, OneFactor, OnePrimary, Numeral, Logical, OneCall, OneElement, Alone}
+use Rattle.gier_tree.specs.Trees.{WithActuals, Subscripted, OneExpr, NoActuals, MoreActuals, NoExprs, only, NoFormals, FormalList}
+use Rattle.gier_tree.specs.Trees.{NoValues, ValueList, ValueSpec, MkHeading, OneName, LeftElement, DeclareType, DeclareArrays}
+use Rattle.gier_tree.specs.Trees.{DeclareProcedure, NoDeclarations, MoreDeclarations, MkBlock, MkCompound, NoStatements}
+use Rattle.gier_tree.specs.Trees.{MoreStatements, OneUnconditional, OneConditional, MkUnconditional, OneGroup, Assign, Jump}
+use Rattle.gier_tree.specs.Trees.{CallStatement, IfThen, MkProgram}
 use Rattle.gier_meaning.specs.Observation.{Ended}
-use Rattle.gier_meaning.specs.Example.{Example, told_as, name, comma_name, label_place, integer_word, boolean_word, conjunction_expr, relation_expr, sum_expr, number, alone, plainly}
+use Rattle.gier_meaning.specs.Example.{Example, told_as, name, comma_name, label_place, integer_word, boolean_word}
+use Rattle.gier_meaning.specs.Example.{conjunction_expr, relation_expr, sum_expr, number, alone, plainly}
 
---     _begin _integer a; _procedure p(x); _value x; _integer x; _begin x := x + 1; outinteger(x) _end; a := 4; p(a); outinteger(a) _end
+--     _begin _integer a; _procedure p(x); _value x; _integer x; _begin x := x + 1; outinteger(x) _end; a := 4; p(a);
+--     outinteger(a) _end
 abbrev pub value_is_a_copy : Example
 value_is_a_copy = record {
   program = (MkProgram []
@@ -18,7 +27,8 @@ value_is_a_copy = record {
       (MkCompound 1
       (plainly
       (Assign (record { left = (OneName (name 10 1)); becomes = 1 }) []
-      (sum_expr (Summed (OneTerm (OneFactor (OnePrimary (OneCall (Alone (name 10 1)))))) Add 1 (OneFactor (OnePrimary (Numeral 1 1)))))))
+      (sum_expr (Summed (OneTerm (OneFactor (OnePrimary (OneCall (Alone (name 10 1)))))) Add 1 (OneFactor
+      (OnePrimary (Numeral 1 1)))))))
       (MoreStatements 1 (plainly (CallStatement (WithActuals (name 0 1) 1 (OneExpr (alone 10 1)) NoActuals 1))) NoStatements)
       1)))) 1 NoDeclarations)
       (plainly (Assign (record { left = (OneName (name 8 1)); becomes = 1 }) [] (number 4 1)))
@@ -78,7 +88,8 @@ recursion = record {
       (Compared (OneTerm (OneFactor (OnePrimary (OneCall (Alone (name 9 1)))))) EqualTo 1
       (OneTerm (OneFactor (OnePrimary (Numeral 0 1)))))) 1
       (OneImplication
-      (OneDisjunction (OneConjunction (OneNegation (OneRelation (OneArithmetic (OneTerm (OneFactor (OnePrimary (Numeral 0 1))))))))))
+      (OneDisjunction (OneConjunction (OneNegation (OneRelation (OneArithmetic (OneTerm (OneFactor (OnePrimary
+      (Numeral 0 1))))))))))
       1
       (sum_expr
       (Summed
@@ -93,7 +104,8 @@ recursion = record {
       NoActuals 1))))) Add 1 (OneFactor (OnePrimary (Numeral 1 1))))))))) 1 NoDeclarations
       (plainly
       (CallStatement
-      (WithActuals (name 0 1) 1 (OneExpr (only (OneCall (WithActuals (name 8 1) 1 (OneExpr (number 3 1)) NoActuals 1)))) NoActuals 1)))
+      (WithActuals (name 0 1) 1
+      (OneExpr (only (OneCall (WithActuals (name 8 1) 1 (OneExpr (number 3 1)) NoActuals 1)))) NoActuals 1)))
       NoStatements 1) 1);
   unread = [];
   permitted = 60;
@@ -119,7 +131,8 @@ both_recur = record {
       (Compared (OneTerm (OneFactor (OnePrimary (OneCall (Alone (name 9 1)))))) EqualTo 1
       (OneTerm (OneFactor (OnePrimary (Numeral 0 1)))))) 1
       (OneImplication
-      (OneDisjunction (OneConjunction (OneNegation (OneRelation (OneArithmetic (OneTerm (OneFactor (OnePrimary (Logical true 1))))))))))
+      (OneDisjunction (OneConjunction (OneNegation (OneRelation (OneArithmetic (OneTerm (OneFactor (OnePrimary
+      (Logical true 1))))))))))
       1
       (only
       (OneCall
@@ -178,11 +191,13 @@ starts_at_zero = record {
       NoDeclarations
       (plainly
       (CallStatement
-      (WithActuals (name 0 1) 1 (OneExpr (only (OneCall (WithActuals (name 8 1) 1 (OneExpr (number 3 1)) NoActuals 1)))) NoActuals 1)))
+      (WithActuals (name 0 1) 1
+      (OneExpr (only (OneCall (WithActuals (name 8 1) 1 (OneExpr (number 3 1)) NoActuals 1)))) NoActuals 1)))
       (MoreStatements 1
       (plainly
       (CallStatement
-      (WithActuals (name 0 1) 1 (OneExpr (only (OneCall (WithActuals (name 8 1) 1 (OneExpr (number 0 1)) NoActuals 1)))) NoActuals 1)))
+      (WithActuals (name 0 1) 1
+      (OneExpr (only (OneCall (WithActuals (name 8 1) 1 (OneExpr (number 0 1)) NoActuals 1)))) NoActuals 1)))
       NoStatements) 1) 1);
   unread = [];
   permitted = 60;
@@ -249,7 +264,8 @@ where_it_is_declared = record {
   told = told_as (codes "1") Ended 3 18 ([]) None;
 }
 
---     _begin _integer c; _integer _procedure n; _begin c := c + 1; n := c _end; _procedure p(x, y, z); _value z, x; _integer x, y, z; _begin outinteger(x); outinteger(z); outinteger(y) _end; p(n, n, n) _end
+--     _begin _integer c; _integer _procedure n; _begin c := c + 1; n := c _end; _procedure p(x, y, z); _value z, x; _integer x,
+--     y, z; _begin outinteger(x); outinteger(z); outinteger(y) _end; p(n, n, n) _end
 abbrev pub actuals_in_order : Example
 actuals_in_order = record {
   program = (MkProgram []
@@ -261,7 +277,8 @@ actuals_in_order = record {
       (MkCompound 1
       (plainly
       (Assign (record { left = (OneName (name 8 1)); becomes = 1 }) []
-      (sum_expr (Summed (OneTerm (OneFactor (OnePrimary (OneCall (Alone (name 8 1)))))) Add 1 (OneFactor (OnePrimary (Numeral 1 1)))))))
+      (sum_expr (Summed (OneTerm (OneFactor (OnePrimary (OneCall (Alone (name 8 1)))))) Add 1 (OneFactor
+      (OnePrimary (Numeral 1 1)))))))
       (MoreStatements 1 (plainly (Assign (record { left = (OneName (name 9 1)); becomes = 1 }) [] (alone 8 1))) NoStatements)
       1)))) 1
       (MoreDeclarations
@@ -318,7 +335,8 @@ labels_of_a_body = record {
   told = told_as (codes "21") Ended 4 17 ([]) None;
 }
 
---     _begin _procedure p(n); _value n; _integer n; _begin _if n = 0 _then _goto L; p(n-1); outchar(97) _end; p(2); outchar(98); L: outchar(99) _end
+--     _begin _procedure p(n); _value n; _integer n; _begin _if n = 0 _then _goto L; p(n-1); outchar(97) _end; p(2);
+--     outchar(98); L: outchar(99) _end
 abbrev pub out_of_procedures : Example
 out_of_procedures = record {
   program = (MkProgram []
@@ -355,7 +373,8 @@ out_of_procedures = record {
   told = told_as (codes "c") Ended 5 35 ([]) None;
 }
 
---     _begin _procedure p(a) and: (b); _value a, b; _integer a, b; _begin outinteger(a); outinteger(b) _end; p(1) then comes: (2) _end
+--     _begin _procedure p(a) and: (b); _value a, b; _integer a, b; _begin outinteger(a); outinteger(b) _end; p(1) then comes:
+--     (2) _end
 abbrev pub parts_of_a_call : Example
 parts_of_a_call = record {
   program = (MkProgram []
@@ -378,7 +397,8 @@ parts_of_a_call = record {
   told = told_as (codes "12") Ended 2 19 ([]) None;
 }
 
---     _begin _procedure p(n); _value n; _integer n; _begin _integer _array a[n:n+1]; a[n] := n; _if n > 0 _then p(n-1); outinteger(a[n]) _end; p(2) _end
+--     _begin _procedure p(n); _value n; _integer n; _begin _integer _array a[n:n+1]; a[n] := n; _if n > 0 _then p(n-1);
+--     outinteger(a[n]) _end; p(2) _end
 abbrev pub array_in_recursion : Example
 array_in_recursion = record {
   program = (MkProgram []
@@ -392,7 +412,8 @@ array_in_recursion = record {
       (DeclareArrays (integer_word 1) 1
       (MkSegment (MkNames (name 10 1) []) 1
       (MkPair (alone 9 1) 1
-      (sum_expr (Summed (OneTerm (OneFactor (OnePrimary (OneCall (Alone (name 9 1)))))) Add 1 (OneFactor (OnePrimary (Numeral 1 1))))))
+      (sum_expr (Summed (OneTerm (OneFactor (OnePrimary (OneCall (Alone (name 9 1)))))) Add 1 (OneFactor
+      (OnePrimary (Numeral 1 1))))))
       [] 1) []) 1 NoDeclarations
       (plainly
       (Assign (record { left = (LeftElement (Subscripted (name 10 1) 1 (alone 9 1) NoExprs 1)); becomes = 1 }) [] (alone 9 1)))

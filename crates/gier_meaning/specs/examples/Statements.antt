@@ -1,8 +1,14 @@
 -- Assignments, conditional statements and go to (Report 4.2, 4.3, 4.5).
 use Rattle.std.specs.Prelude.{[], ◌∷◌, codes, Some, None, false}
-use Rattle.gier_tree.specs.Trees.{MkNames, MkPair, MkSegment, Add, LessThan, EqualTo, MoreThan, Compared, OneTerm, Summed, OneFactor, OnePrimary, Numeral, Logical, OneCall, OneElement, Alone, WithActuals, Subscripted, OneExpr, NoActuals, NoExprs, only, NoFormals, NoValues, MkHeading, OneName, LeftElement, DeclareType, DeclareArrays, DeclareProcedure, NoDeclarations, MoreDeclarations, MkBlock, MkCompound, NoStatements, MoreStatements, OneUnconditional, OneConditional, MkUnconditional, OneGroup, Assign, Jump, CallStatement, Dummy, IfThen, IfElse, MkProgram}
+use Rattle.gier_tree.specs.Trees.{MkNames, MkPair, MkSegment, Add, LessThan, EqualTo, MoreThan, Compared, OneTerm, Summed}
+use Rattle.gier_tree.specs.Trees.{OneFactor, OnePrimary, Numeral, Logical, OneCall, OneElement, Alone, WithActuals, Subscripted}
+use Rattle.gier_tree.specs.Trees.{OneExpr, NoActuals, NoExprs, only, NoFormals, NoValues, MkHeading, OneName, LeftElement}
+use Rattle.gier_tree.specs.Trees.{DeclareType, DeclareArrays, DeclareProcedure, NoDeclarations, MoreDeclarations, MkBlock}
+use Rattle.gier_tree.specs.Trees.{MkCompound, NoStatements, MoreStatements, OneUnconditional, OneConditional, MkUnconditional}
+use Rattle.gier_tree.specs.Trees.{OneGroup, Assign, Jump, CallStatement, Dummy, IfThen, IfElse, MkProgram}
 use Rattle.gier_meaning.specs.Observation.{Ended}
-use Rattle.gier_meaning.specs.Example.{Example, told_as, name, comma_name, label_place, integer_word, relation_expr, sum_expr, number, alone, plainly}
+use Rattle.gier_meaning.specs.Example.{Example, told_as, name, comma_name, label_place, integer_word, relation_expr, sum_expr}
+use Rattle.gier_meaning.specs.Example.{number, alone, plainly}
 
 --     _begin _integer c; _integer _array a, b[1:3]; _integer _procedure f; _begin c := c + 1; f := c _end;
 --     a[f] := b[f] := f; outinteger(a[1]); outinteger(b[2]); outinteger(c) _end
@@ -20,7 +26,8 @@ left_parts_first = record {
       (MkCompound 1
       (plainly
       (Assign (record { left = (OneName (name 8 1)); becomes = 1 }) []
-      (sum_expr (Summed (OneTerm (OneFactor (OnePrimary (OneCall (Alone (name 8 1)))))) Add 1 (OneFactor (OnePrimary (Numeral 1 1)))))))
+      (sum_expr (Summed (OneTerm (OneFactor (OnePrimary (OneCall (Alone (name 8 1)))))) Add 1 (OneFactor
+      (OnePrimary (Numeral 1 1)))))))
       (MoreStatements 1 (plainly (Assign (record { left = (OneName (name 11 1)); becomes = 1 }) [] (alone 8 1))) NoStatements)
       1)))) 1 NoDeclarations))
       (plainly
@@ -43,7 +50,8 @@ left_parts_first = record {
   told = told_as (codes "333") Ended 4 32 ([]) None;
 }
 
---     _begin _integer i; i := 3; _if i = 3 _then outchar(97); _if i > 3 _then outchar(98) _else _if i < 3 _then outchar(99) _else outchar(100);
+--     _begin _integer i; i := 3; _if i = 3 _then outchar(97); _if i > 3 _then outchar(98) _else _if i < 3 _then outchar(99)
+--     _else outchar(100);
 --     _if _false _then outchar(101) _end
 abbrev pub conditionals : Example
 conditionals = record {
@@ -90,7 +98,8 @@ skips_behind_end = record {
       (OneConditional
       (IfElse [] 1 (only (Logical false 1)) 1
       (MkUnconditional []
-      (OneGroup (MkCompound 1 (plainly (CallStatement (WithActuals (name 3 1) 1 (OneExpr (number 65 1)) NoActuals 1))) NoStatements 1)))
+      (OneGroup (MkCompound 1
+      (plainly (CallStatement (WithActuals (name 3 1) 1 (OneExpr (number 65 1)) NoActuals 1))) NoStatements 1)))
       1 (plainly (CallStatement (WithActuals (name 3 1) 1 (OneExpr (number 66 1)) NoActuals 1))))) NoStatements 1) 1);
   unread = [];
   permitted = 60;
@@ -106,7 +115,8 @@ loop_by_go_to = record {
       (OneUnconditional
       (MkUnconditional (label_place 9 1 1 ∷ [])
       (Assign (record { left = (OneName (name 8 1)); becomes = 1 }) []
-      (sum_expr (Summed (OneTerm (OneFactor (OnePrimary (OneCall (Alone (name 8 1)))))) Add 1 (OneFactor (OnePrimary (Numeral 1 1))))))))
+      (sum_expr (Summed (OneTerm (OneFactor (OnePrimary (OneCall (Alone (name 8 1)))))) Add 1 (OneFactor (OnePrimary
+      (Numeral 1 1))))))))
       (MoreStatements 1
       (OneConditional
       (IfElse [] 1
@@ -124,7 +134,8 @@ loop_by_go_to = record {
   told = told_as ((52 ∷ 10 ∷ [])) Ended 4 9 ([]) None;
 }
 
---     _begin _integer i; _goto M; _if i > 0 _then _begin outchar(97); M: outchar(98); i := i + 1; N: outchar(99) _end _else outchar(100);
+--     _begin _integer i; _goto M; _if i > 0 _then _begin outchar(97); M: outchar(98); i := i + 1; N: outchar(99) _end _else
+--     outchar(100);
 --     _if i < 2 _then _goto M; outchar(101) _end
 abbrev pub into_a_branch : Example
 into_a_branch = record {
@@ -145,7 +156,8 @@ into_a_branch = record {
       (MoreStatements 1
       (plainly
       (Assign (record { left = (OneName (name 8 1)); becomes = 1 }) []
-      (sum_expr (Summed (OneTerm (OneFactor (OnePrimary (OneCall (Alone (name 8 1)))))) Add 1 (OneFactor (OnePrimary (Numeral 1 1)))))))
+      (sum_expr (Summed (OneTerm (OneFactor (OnePrimary (OneCall (Alone (name 8 1)))))) Add 1 (OneFactor
+      (OnePrimary (Numeral 1 1)))))))
       (MoreStatements 1
       (OneUnconditional
       (MkUnconditional (label_place 10 1 1 ∷ []) (CallStatement (WithActuals (name 3 1) 1 (OneExpr (number 99 1)) NoActuals 1))))
@@ -212,7 +224,8 @@ program_label = record {
   told = told_as (codes "210") Ended 5 8 ([]) None;
 }
 
---     _begin _integer i; i := 1; _begin _integer j; j := 2; _begin _integer i; i := 3; _goto L; outchar(97) _end; outchar(98) _end; L: outinteger(i) _end
+--     _begin _integer i; i := 1; _begin _integer j; j := 2; _begin _integer i; i := 3; _goto L; outchar(97) _end; outchar(98)
+--     _end; L: outinteger(i) _end
 abbrev pub out_of_blocks : Example
 out_of_blocks = record {
   program = (MkProgram []

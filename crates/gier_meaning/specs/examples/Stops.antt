@@ -1,11 +1,19 @@
 -- Where steps or words are used up, and what was live then.
 use Rattle.std.specs.Prelude.{[], ◌∷◌, codes, Some, None}
-use Rattle.gier_tree.specs.Trees.{MkNames, MkPair, MkSegment, Add, Subtract, EqualTo, IfExpr, OneImplication, OneDisjunction, OneConjunction, OneNegation, OneRelation, OneArithmetic, Compared, OneTerm, Summed, OneFactor, OnePrimary, Numeral, OneCall, OneElement, Alone, WithActuals, Subscripted, OneExpr, NoActuals, NoExprs, MoreExprs, only, FormalList, NoValues, ValueList, ValueSpec, MkHeading, OneName, LeftElement, OneValue, DeclareType, DeclareArrays, DeclareSwitch, DeclareProcedure, NoDeclarations, MoreDeclarations, MkBlock, MkCompound, NoStatements, MoreStatements, OneUnconditional, OneLoop, MkUnconditional, OneGroup, Assign, Jump, CallStatement, MkLoop, MkProgram}
+use Rattle.gier_tree.specs.Trees.{MkNames, MkPair, MkSegment, Add, Subtract, EqualTo, IfExpr, OneImplication, OneDisjunction}
+use Rattle.gier_tree.specs.Trees.{OneConjunction, OneNegation, OneRelation, OneArithmetic, Compared, OneTerm, Summed, OneFactor}
+use Rattle.gier_tree.specs.Trees.{OnePrimary, Numeral, OneCall, OneElement, Alone, WithActuals, Subscripted, OneExpr, NoActuals}
+use Rattle.gier_tree.specs.Trees.{NoExprs, MoreExprs, only, FormalList, NoValues, ValueList, ValueSpec, MkHeading, OneName}
+use Rattle.gier_tree.specs.Trees.{LeftElement, OneValue, DeclareType, DeclareArrays, DeclareSwitch, DeclareProcedure}
+use Rattle.gier_tree.specs.Trees.{NoDeclarations, MoreDeclarations, MkBlock, MkCompound, NoStatements, MoreStatements}
+use Rattle.gier_tree.specs.Trees.{OneUnconditional, OneLoop, MkUnconditional, OneGroup, Assign, Jump, CallStatement, MkLoop}
+use Rattle.gier_tree.specs.Trees.{MkProgram}
 use Rattle.gier_word.specs.declared.alarm.Alarm.TheVariants.{Stack}
 use Rattle.gier_meaning.specs.Live.{InProgram, InBlock, InProcedure, InEvaluation}
 use Rattle.gier_meaning.specs.Outcome.{Alarmed, NoStepLeft}
 use Rattle.gier_meaning.specs.Observation.{Ended, Stopped}
-use Rattle.gier_meaning.specs.Example.{Example, told_as, live, stop_at, name, comma_name, label_place, integer_word, boolean_word, relation_expr, sum_expr, number, alone, plainly}
+use Rattle.gier_meaning.specs.Example.{Example, told_as, live, stop_at, name, comma_name, label_place, integer_word, boolean_word}
+use Rattle.gier_meaning.specs.Example.{relation_expr, sum_expr, number, alone, plainly}
 
 --     _begin _integer i, j;
 --     _procedure p(x); _integer x;
@@ -40,14 +48,16 @@ enough_steps = record {
       (CallStatement
       (WithActuals (name 10 7) 7
       (OneExpr
-      (sum_expr (Summed (OneTerm (OneFactor (OnePrimary (OneCall (Alone (name 9 7)))))) Add 7 (OneFactor (OnePrimary (Numeral 1 7))))))
+      (sum_expr (Summed (OneTerm (OneFactor (OnePrimary (OneCall (Alone (name 9 7)))))) Add 7 (OneFactor
+      (OnePrimary (Numeral 1 7))))))
       NoActuals 7)))
       (MoreStatements 7
       (OneLoop
       (MkLoop [] 8 (name 9 8) 8 (OneValue (number 1 8)) (record { comma = 8; turns = (OneValue (number 2 8)) } ∷ []) 8
       (plainly
       (Assign (record { left = (OneName (name 8 9)); becomes = 9 }) []
-      (sum_expr (Summed (OneTerm (OneFactor (OnePrimary (OneCall (Alone (name 8 9)))))) Add 9 (OneFactor (OnePrimary (Numeral 1 9)))))))))
+      (sum_expr (Summed (OneTerm (OneFactor (OnePrimary (OneCall (Alone (name 8 9)))))) Add 9 (OneFactor (OnePrimary
+      (Numeral 1 9)))))))))
       (MoreStatements 9
       (plainly
       (OneGroup
@@ -59,7 +69,8 @@ enough_steps = record {
       (MoreStatements 11 (plainly (CallStatement (WithActuals (name 3 12) 12 (OneExpr (number 97 12)) NoActuals 12)))
       (MoreStatements 12
       (OneUnconditional
-      (MkUnconditional (label_place 13 13 13 ∷ []) (CallStatement (WithActuals (name 3 13) 13 (OneExpr (number 98 13)) NoActuals 13))))
+      (MkUnconditional (label_place 13 13 13 ∷ []) (CallStatement (WithActuals (name 3 13) 13
+      (OneExpr (number 98 13)) NoActuals 13))))
       NoStatements)))))) 13) 13);
   unread = [];
   permitted = 8;
@@ -154,7 +165,8 @@ no_room_for_an_evaluation = record {
   unread = [];
   permitted = 60;
   limit = 25;
-  told = told_as ([]) (Stopped (Alarmed Stack)) 3 20 ([]) (stop_at (live (InProcedure 7) 9 ∷ live InBlock 8 ∷ live InProgram 3 ∷ []) 4);
+  told = told_as ([]) (Stopped (Alarmed Stack)) 3 20 ([])
+      (stop_at (live (InProcedure 7) 9 ∷ live InBlock 8 ∷ live InProgram 3 ∷ []) 4);
 }
 
 -- the program of enough_steps
@@ -190,7 +202,9 @@ no_room_for_the_program = record {
 --     _begin L: _goto L _end
 abbrev pub forever : Example
 forever = record {
-  program = (MkProgram [] (MkCompound 1 (OneUnconditional (MkUnconditional (label_place 8 1 1 ∷ []) (Jump 1 (alone 8 1)))) NoStatements 1) 1);
+  program =
+      (MkProgram []
+      (MkCompound 1 (OneUnconditional (MkUnconditional (label_place 8 1 1 ∷ []) (Jump 1 (alone 8 1)))) NoStatements 1) 1);
   unread = [];
   permitted = 5;
   limit = 400;
@@ -214,7 +228,8 @@ deep_enough = record {
       (Compared (OneTerm (OneFactor (OnePrimary (OneCall (Alone (name 9 1)))))) EqualTo 1
       (OneTerm (OneFactor (OnePrimary (Numeral 0 1)))))) 1
       (OneImplication
-      (OneDisjunction (OneConjunction (OneNegation (OneRelation (OneArithmetic (OneTerm (OneFactor (OnePrimary (Numeral 0 1))))))))))
+      (OneDisjunction (OneConjunction (OneNegation (OneRelation (OneArithmetic (OneTerm (OneFactor (OnePrimary
+      (Numeral 0 1))))))))))
       1
       (sum_expr
       (Summed
@@ -229,7 +244,8 @@ deep_enough = record {
       NoActuals 1))))) Add 1 (OneFactor (OnePrimary (Numeral 1 1))))))))) 1 NoDeclarations
       (plainly
       (CallStatement
-      (WithActuals (name 0 2) 2 (OneExpr (only (OneCall (WithActuals (name 8 2) 2 (OneExpr (number 3 2)) NoActuals 2)))) NoActuals 2)))
+      (WithActuals (name 0 2) 2
+      (OneExpr (only (OneCall (WithActuals (name 8 2) 2 (OneExpr (number 3 2)) NoActuals 2)))) NoActuals 2)))
       NoStatements 2) 2);
   unread = [];
   permitted = 60;
@@ -244,7 +260,9 @@ one_word_too_deep = record {
   unread = [];
   permitted = 60;
   limit = 51;
-  told = told_as ([]) (Stopped (Alarmed Stack)) 5 41 ([]) (stop_at (live (InProcedure 1) 11 ∷ live (InProcedure 1) 11 ∷ live (InProcedure 2) 11 ∷ live InBlock 5 ∷ live InProgram 3 ∷ []) 1);
+  told = told_as ([]) (Stopped (Alarmed Stack)) 5 41 ([])
+      (stop_at (live (InProcedure 1) 11 ∷ live (InProcedure 1) 11 ∷ live (InProcedure 2) 11 ∷ live InBlock 5
+      ∷ live InProgram 3 ∷ []) 1);
 }
 
 --     _begin _integer n; n := 3; _begin _integer _array a, b[1:n];
@@ -290,7 +308,8 @@ room_of_left_arrays = record {
       (MkLoop [] 1 (name 8 1) 1 (OneValue (number 3 1)) (record { comma = 1; turns = (OneValue (number 3 1)) } ∷ []) 1
       (plainly
       (OneGroup
-      (MkBlock 1 (DeclareArrays (integer_word 1) 1 (MkSegment (MkNames (name 9 1) []) 1 (MkPair (number 1 1) 1 (alone 8 1)) [] 1) [])
+      (MkBlock 1
+      (DeclareArrays (integer_word 1) 1 (MkSegment (MkNames (name 9 1) []) 1 (MkPair (number 1 1) 1 (alone 8 1)) [] 1) [])
       1 NoDeclarations
       (plainly
       (Assign (record { left = (LeftElement (Subscripted (name 9 1) 1 (alone 8 1) NoExprs 1)); becomes = 1 }) [] (alone 8 1)))
@@ -321,7 +340,8 @@ element_without_room = record {
       (OneDisjunction
       (OneConjunction
       (OneNegation
-      (OneRelation (OneArithmetic (OneTerm (OneFactor (OnePrimary (OneElement (Subscripted (name 8 1) 1 (number 1 1) NoExprs 1)))))))))))
+      (OneRelation (OneArithmetic (OneTerm (OneFactor (OnePrimary (OneElement (Subscripted (name 8 1) 1
+      (number 1 1) NoExprs 1)))))))))))
       1 (alone 11 1)) NoExprs)) 1
       (MoreDeclarations (DeclareType (integer_word 1) (MkNames (name 10 1) [])) 1 NoDeclarations)
       (plainly (Jump 1 (only (OneElement (Subscripted (name 8 1) 1 (number 2 1) NoExprs 1)))))
@@ -335,5 +355,6 @@ element_without_room = record {
   unread = [];
   permitted = 60;
   limit = 15;
-  told = told_as ([]) (Stopped (Alarmed Stack)) 3 13 ([]) (stop_at (live (InEvaluation 1) 6 ∷ live InBlock 4 ∷ live InProgram 3 ∷ []) 1);
+  told = told_as ([]) (Stopped (Alarmed Stack)) 3 13 ([])
+      (stop_at (live (InEvaluation 1) 6 ∷ live InBlock 4 ∷ live InProgram 3 ∷ []) 1);
 }

@@ -6,7 +6,7 @@ use Rattle.std.proofs.lemmas.Bool.{cases_lt}
 use Rattle.std.proofs.lemmas.Option.{slice_get_past}
 use Rattle.gier_order.specs.Flat.Row.{Regs, Step, On, Ends, Odd, Row, on_word}
 use Rattle.gier_order.specs.Flat.Rows.{row}
-use Rattle.gier_order.specs.Flat.Run.{Move, More, Last, Outcome, Over, Unfinished, then_on, exec, State, Final, with_row, next_state, one, great, small, rounds, enough, initial_state, flat, report_of, final_of}
+use Rattle.gier_order.specs.Flat.Run.{Move, More, Last, Outcome, Over, Unfinished, then_on, exec, State, Final, with_row, next_state, one, great, small, rounds, enough, machine_at_start, flat, report_of, final_of}
 use Rattle.gier_order.proofs.Flat.Falls.{Lowers, Falls, row_falls}
 
 module _ {M F : Type 0} (one : M → Move M F) where
@@ -113,5 +113,5 @@ module _ (code : List ℕ) (size : ℕ) where
   pub run_same : (j : ℕ) (s : State) (final : Final) → exec (one code size) j s ≡ Over final → exec (one code size) (enough code s) s ≡ Over final
   run_same j s final e = same_end (one code size) (length code) great (small code) within one_falls (enough code s) j s final (omega arith) e
 
-  pub flat_is : (start : ℕ) (input : List ℕ) (steps j : ℕ) (final : Final) → exec (one code size) j (initial_state start input steps) ≡ Over final → flat code start input steps size ≡ report_of steps final
-  flat_is start input steps j final e = ap (λ o. report_of steps (final_of (initial_state start input steps) o)) (run_same j (initial_state start input steps) final e)
+  pub flat_is : (start : ℕ) (input : List ℕ) (steps j : ℕ) (final : Final) → exec (one code size) j (machine_at_start start input steps) ≡ Over final → flat code start input steps size ≡ report_of steps final
+  flat_is start input steps j final e = ap (λ o. report_of steps (final_of (machine_at_start start input steps) o)) (run_same j (machine_at_start start input steps) final e)

@@ -36,7 +36,8 @@ subscript words from i = excess_number (words (from + i))
 abbrev pub are_within : (ℕ → ℕ) → (at from d : ℕ) → Bool
 are_within words at from zero = true
 are_within words at from (suc d) =
-    are_within words at from d && (nat_le (lower words at d) (subscript words from d) && nat_le (subscript words from d) (upper words at d))
+    are_within words at from d
+    && (nat_le (lower words at d) (subscript words from d) && nat_le (subscript words from d) (upper words at d))
 
 -- the number of the element from the first on; the last subscript varies fastest
 abbrev pub offset : (ℕ → ℕ) → (at from d : ℕ) → ℕ

@@ -1,8 +1,11 @@
 -- The packed kinds of formals and actuals, as AGREE and BYVAL look at them: ten to a word.
-use Rattle.std.specs.Prelude.{◌+◌, ◌/◌, ◌==◌, ◌&&◌, ◌||◌, ℕ, zero, suc, Bool, true, false, nat_lt, nat_le, if◌then◌else◌, List, [], ◌∷◌, Option, None, Some}
+use Rattle.std.specs.Prelude.{◌+◌, ◌/◌, ◌==◌, ◌&&◌, ◌||◌, ℕ, zero, suc, Bool, true, false, nat_lt, nat_le, if◌then◌else◌, List}
+use Rattle.std.specs.Prelude.{[], ◌∷◌, Option, None, Some}
 use Rattle.std.specs.List.{slice_get}
 use Rattle.gier_agree.specs.declared.kind.Kind.{Kind}
-use Rattle.gier_agree.specs.declared.kind.Kind.TheVariants.{IntegerByValue, BooleanByValue, Integer, Boolean, Label, IntegerArray, BooleanArray, Switch, String, Procedure, IntegerProcedure, BooleanProcedure}
+use Rattle.gier_agree.specs.declared.kind.Kind.TheVariants.{IntegerByValue, BooleanByValue, Integer, Boolean, Label, IntegerArray}
+use Rattle.gier_agree.specs.declared.kind.Kind.TheVariants.{BooleanArray, Switch, String, Procedure, IntegerProcedure}
+use Rattle.gier_agree.specs.declared.kind.Kind.TheVariants.{BooleanProcedure}
 use Rattle.gier_agree.specs.Kinds.{number_of, wanted_by}
 use Rattle.gier_agree.specs.Packed.{kind_in}
 use Rattle.gier_order.specs.declared.order.Order.{Order}
@@ -54,7 +57,8 @@ abbrev pub is_packed : (first left word : ℕ) → Bool
 is_packed first left word = are_fields first left word group
 
 abbrev pub kinds : List Kind
-kinds = IntegerByValue ∷ BooleanByValue ∷ Integer ∷ Boolean ∷ Label ∷ IntegerArray ∷ BooleanArray ∷ Switch ∷ String ∷ Procedure ∷ IntegerProcedure ∷ BooleanProcedure ∷ []
+kinds = IntegerByValue ∷ BooleanByValue ∷ Integer ∷ Boolean ∷ Label ∷ IntegerArray ∷ BooleanArray ∷ Switch ∷ String ∷ Procedure
+    ∷ IntegerProcedure ∷ BooleanProcedure ∷ []
 
 -- the kind with a number
 abbrev pub kind_of : ℕ → Option Kind

@@ -33,14 +33,23 @@ entered_at Evaluation back = before back
 
 abbrev pub live_at : (ℕ → ℕ) → (ℕ → ℕ) → (top base : ℕ) → Live
 live_at words marks top base =
-    record { shape = shape_at words marks base; words = top - base; entered_by = entered_at (shape_at words marks base) (words (base + 3)) }
+    record {
+      shape = shape_at words marks base;
+      words = top - base;
+      entered_by = entered_at (shape_at words marks base)
+          (words (base + 3));
+    }
 
 -- the activation at a base, whose words end at `top`, and those before it; bases fall, so one more look than the base's
 -- number is enough
 abbrev pub live_from : (looks : ℕ) → (ℕ → ℕ) → (ℕ → ℕ) → (top base : ℕ) → List Live
 live_from zero words marks top base = []
 live_from (suc looks) words marks top base =
-    live_at words marks top base ∷ elim (nat_le base (words base)) as (λ _. List Live) [ true ↦ [] | false ↦ live_from looks words marks base (words base) ]
+    live_at words marks top base
+    ∷ elim (nat_le base (words base)) as (λ _. List Live) [
+      | true ↦ []
+      | false ↦ live_from looks words marks base (words base)
+    ]
 
 -- all of them; none where there is no activation yet
 abbrev pub live_in : Regs → List Live

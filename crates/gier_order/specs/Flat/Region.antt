@@ -1,6 +1,7 @@
 -- The stack of a flat run: a word for each place, as a function, and the walk along the activations that enclose one
 -- another in the text. It knows nothing of how the machine keeps its stack.
-use Rattle.std.specs.Prelude.{◌+◌, ◌-◌, ◌*◌, ◌/◌, ◌%◌, ◌==◌, ◌&&◌, ℕ, zero, suc, Bool, true, false, nat_lt, nat_le, Option, None, Some}
+use Rattle.std.specs.Prelude.{◌+◌, ◌-◌, ◌*◌, ◌/◌, ◌%◌, ◌==◌, ◌&&◌, ℕ, zero, suc, Bool, true, false, nat_lt, nat_le, Option, None}
+use Rattle.std.specs.Prelude.{Some}
 
 -- an activation's level stands above its enclosing base by this
 abbrev pub level_unit : ℕ

@@ -76,4 +76,7 @@ pub data Entry : Type 0 where
 abbrev pub entry : (size left greatest top room : ℕ) → Entry
 entry size zero greatest top room = NoStep
 entry size (suc left) greatest top room =
-    elim (nat_le (top + room) size) as (λ _. Entry) [ true ↦ Enters left (max greatest (top + room)) (top + room) | false ↦ NoRoom left ]
+    elim (nat_le (top + room) size) as (λ _. Entry) [
+      | true ↦ Enters left (max greatest (top + room)) (top + room)
+      | false ↦ NoRoom left
+    ]

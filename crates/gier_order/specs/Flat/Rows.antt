@@ -1,6 +1,8 @@
 -- The rows of the order table, in its order: what an order of an object does to the registers. Each reads its words of
 -- the object first and is spoilt by what it finds there or in the stack; then it charges its step, and then it takes its room.
-use Rattle.std.specs.Prelude.{◌+◌, ◌-◌, ◌*◌, ◌/◌, ◌%◌, ◌==◌, ◌&&◌, ◌||◌, ◌^◌, ℕ, zero, suc, ℤ, pos, negsuc, Bool, true, false, not, max, min, nat_lt, nat_le, int_lt, int_le, if◌then◌else◌, List, [], ◌∷◌, length, take, drop, Option, None, Some, Result, Ok, Err}
+use Rattle.std.specs.Prelude.{◌+◌, ◌-◌, ◌*◌, ◌/◌, ◌%◌, ◌==◌, ◌&&◌, ◌||◌, ◌^◌, ℕ, zero, suc, ℤ, pos, negsuc, Bool, true, false}
+use Rattle.std.specs.Prelude.{not, max, min, nat_lt, nat_le, int_lt, int_le, if◌then◌else◌, List, [], ◌∷◌, length, take, drop}
+use Rattle.std.specs.Prelude.{Option, None, Some, Result, Ok, Err}
 use Rattle.gier_word.specs.Words.{int_of_word, word_of_int}
 use Rattle.gier_word.specs.Operations.{sum_of, difference_of, product_of, quotient_of, power_of, negative_of, modulus_of, sign_of}
 use Rattle.gier_word.specs.Standard.{Reading, integer_text, line_text, character_text, integer_read, character_read}
@@ -13,10 +15,17 @@ use Rattle.gier_order.specs.Codes.{order_at}
 use Rattle.gier_order.specs.Table.{operation_at}
 use Rattle.gier_order.specs.declared.order.Order.{Order}
 use Rattle.gier_order.specs.declared.operation.Operation.{Operation}
-use Rattle.gier_order.specs.declared.operation.Operation.TheVariants.{Start, Stop, Take, Short, Long, Keep, Addr, Fetch, Put, Add, Sub, Mul, Div, Pow, Neg, Lt, Le, Eq, Ge, Gt, Ne, Not, And, Or, Impl, Equiv, Jump, False, Test, Turn, Block, Leave, Array, Index, Proc, Call, Formal, Return, Thunk, Value, Place, NameL, Pass, Back, Give, Lib, Switch, SwForm, Lab, Go, Base, Kinds, Agree, ByVal, CallF}
+use Rattle.gier_order.specs.declared.operation.Operation.TheVariants.{Start, Stop, Take, Short, Long, Keep, Addr, Fetch, Put, Add}
+use Rattle.gier_order.specs.declared.operation.Operation.TheVariants.{Sub, Mul, Div, Pow, Neg, Lt, Le, Eq, Ge, Gt, Ne, Not, And}
+use Rattle.gier_order.specs.declared.operation.Operation.TheVariants.{Or, Impl, Equiv, Jump, False, Test, Turn, Block, Leave}
+use Rattle.gier_order.specs.declared.operation.Operation.TheVariants.{Array, Index, Proc, Call, Formal, Return, Thunk, Value}
+use Rattle.gier_order.specs.declared.operation.Operation.TheVariants.{Place, NameL, Pass, Back, Give, Lib, Switch, SwForm, Lab}
+use Rattle.gier_order.specs.declared.operation.Operation.TheVariants.{Go, Base, Kinds, Agree, ByVal, CallF}
 use Rattle.gier_order.specs.Flat.Region.{put, cleared_words, with_copy, with_pair, with_activation, seek}
-use Rattle.gier_order.specs.Flat.Row.{Regs, Ending, Ended, Alarmed, NoSteps, On, Ends, Row, plain, odd, needs, behind_bytes, reads, Entry, NoStep, NoRoom, Enters, entry}
-use Rattle.gier_order.specs.Flat.Kinds.{groups_for, group, is_a, Handed, Bare, Kinded, Neither, formals_handed, has_formals, is_packed, all_fit}
+use Rattle.gier_order.specs.Flat.Row.{Regs, Ending, Ended, Alarmed, NoSteps, On, Ends, Row, plain, odd, needs, behind_bytes}
+use Rattle.gier_order.specs.Flat.Row.{reads, Entry, NoStep, NoRoom, Enters, entry}
+use Rattle.gier_order.specs.Flat.Kinds.{groups_for, group, is_a, Handed, Bare, Kinded, Neither, formals_handed, has_formals}
+use Rattle.gier_order.specs.Flat.Kinds.{is_packed, all_fit}
 use Rattle.gier_order.specs.Flat.Arrays.{are_ordered, elements, are_within, offset}
 
 -- 1 for true
@@ -157,7 +166,8 @@ module _ (code : List ℕ) (size : ℕ) (m : Regs) where
   -- the same for one that returns, with the order to return to, what is wanted, and the actuals from a place on
   abbrev pub called : (level room outer wanted from count : ℕ) → (left greatest end : ℕ) → Regs
   called level room outer wanted from count left greatest end = record (inside level room outer 1 left greatest end) {
-    words = with_copy (with_pair (with_activation m.words m.top m.base level outer room) (m.top + 3) next wanted) (m.top + 5 + count % 2) m.words from (count / 2 * 2);
+    words = with_copy (with_pair (with_activation m.words m.top m.base level outer room) (m.top + 3) next wanted)
+        (m.top + 5 + count % 2) m.words from (count / 2 * 2);
   }
 
   abbrev pub taken_by : Entry → (ℕ → ℕ → ℕ → Row) → Row
@@ -177,7 +187,8 @@ module _ (code : List ℕ) (size : ℕ) (m : Regs) where
   -- a procedure with its first order at an address
   abbrev pub enters : (level room outer from count a : ℕ) → Row
   enters level room outer from count a =
-      needs (can_enter room outer from count) (takes_room room (λ left greatest end. goes a (called level room outer 0 from count left greatest end)))
+      needs (can_enter room outer from count) (takes_room room (λ left greatest end.
+      goes a (called level room outer 0 from count left greatest end)))
 
   -- an expression has no address
   abbrev pub begins : (kind wanted a : ℕ) → Regs → Row
@@ -197,7 +208,8 @@ module _ (code : List ℕ) (size : ℕ) (m : Regs) where
   -- leaves by a return, with this in R
   abbrev pub leaves : ℕ → Row
   leaves word =
-      needs (nat_lt 0 m.depth) (local 3 (λ back. word_at m.base (λ old. needs (is_address back && is_place old) (goes back (record outside { r = word })))))
+      needs (nat_lt 0 m.depth) (local 3 (λ back. word_at m.base (λ old. needs (is_address back && is_place old) (goes back
+      (record outside { r = word })))))
 
   -- Groups of rows
 
@@ -245,11 +257,13 @@ module _ (code : List ℕ) (size : ℕ) (m : Regs) where
 
   abbrev pub is_array : (d at from : ℕ) → Bool
   is_array d at from =
-      nat_le 1 d && (nat_le d 30 && (nat_le (at + 2 + 2 * d) size && (nat_le (from + 2 * d) size && (is_place (m.base + 2) && is_address next))))
+      nat_le 1 d && (nat_le d 30 && (nat_le (at + 2 + 2 * d) size && (nat_le (from + 2 * d) size && (is_place (m.base + 2)
+      && is_address next))))
 
   abbrev pub array : (d at from : ℕ) → Row
   array d at from =
-      needs (is_array d at from) (if are_ordered m.words from d then takes_elements d at from (elements m.words from d) else alarms Bounds)
+      needs (is_array d at from) (if are_ordered m.words from d
+      then takes_elements d at from (elements m.words from d) else alarms Bounds)
 
   -- the element of the array with a descriptor at a place, by the subscripts from another place on
   abbrev pub element_by : (d at from : ℕ) → Row
@@ -359,7 +373,8 @@ module _ (code : List ℕ) (size : ℕ) (m : Regs) where
   abbrev pub calls_kinded : (place : ℕ) → Order → Handed → Row
   calls_kinded place kinds Bare = odd
   calls_kinded place kinds (Kinded n) = reads_procedure kinds.address (λ head count.
-      needs (count / 2 == n) (word_at place (λ outer. enters head.level head.address outer (m.base + m.r) count (kinds.address + 2))))
+      needs (count / 2 == n) (word_at place (λ outer. enters head.level head.address outer (m.base + m.r) count
+      (kinds.address + 2))))
   calls_kinded place kinds Neither = odd
 
   -- The table
@@ -397,12 +412,14 @@ module _ (code : List ℕ) (size : ℕ) (m : Regs) where
   effect Test l a = local a (λ w. tested (product_of (int_of_word w) (sign_of (int_of_word m.r))))
   effect Turn l a = local a (λ w. needs (is_address w) (pays m.left w m))
   effect Block l a =
-      needs (nat_le 3 a && (is_place m.base && is_address next)) (takes_room a (λ left greatest end. on (inside l a m.base 0 left greatest end)))
+      needs (nat_le 3 a && (is_place m.base && is_address next)) (takes_room a (λ left greatest end.
+      on (inside l a m.base 0 left greatest end)))
   effect Leave l a = needs (nat_lt 0 m.depth) (word_at m.base (λ old. needs (is_place old) (on outside)))
   effect Array l a = array l (m.base + a) (m.base + m.r)
   effect Index l a = needs (is_index l a) (element l (m.words (m.base + a)) (m.base + a + 1))
   effect Proc l a = odd
-  effect Call l a = reads_procedure a (λ head count. in_level l (λ outer. enters head.level head.address outer (m.base + m.r) count (a + 2)))
+  effect Call l a =
+      reads_procedure a (λ head count. in_level l (λ outer. enters head.level head.address outer (m.base + m.r) count (a + 2)))
   effect Formal l a = cell_word l a (λ place k. reads_order k (λ head. calls_bare k (place + 1) head (formals_handed head)))
   effect Return l a = needs (nat_le a 1) (if a == 1 then local 5 (λ value. leaves value) else leaves m.r)
   effect Thunk l a = odd
@@ -410,19 +427,26 @@ module _ (code : List ℕ) (size : ℕ) (m : Regs) where
   effect Place l a = cell_pair l a (λ k outer. evaluates k outer for_address)
   effect NameL l a = cell_pair l a (λ k outer. evaluates k outer for_label)
   effect Pass l a =
-      local 4 (λ wanted. needs ((wanted == for_value) || (wanted == for_address)) (cell_pair l a (λ k outer. evaluates k outer wanted)))
+      local 4 (λ wanted. needs ((wanted == for_value) || (wanted == for_address)) (cell_pair l a (λ k outer.
+      evaluates k outer wanted)))
   effect Back l a = local 4 (λ wanted. needs (nat_le 1 wanted && nat_le wanted 3) (leaves m.r))
   effect Give l a = local 4 (λ wanted.
-      needs ((wanted == for_value) || (wanted == for_address)) (if wanted == for_value then word_at m.r (λ value. leaves value) else leaves m.r))
+      needs ((wanted == for_value) || (wanted == for_address)) (if wanted == for_value
+      then word_at m.r (λ value. leaves value) else leaves m.r))
   effect Lib l a = needs (is_address next) (procedure a)
   effect Switch l a = in_level l (λ outer. switches a outer)
   effect SwForm l a = cell_pair l a (λ table outer. switches table outer)
   effect Lab l a = in_level l (λ b. on (record m { r = a; q = b }))
   effect Go l a = if m.r == 0 then on m else word_at (m.q + 2) (λ top.
-      needs (nat_le top size && is_address m.r) (pays m.left m.r (record m { base = m.q; top = top; greatest = max m.greatest top })))
+      needs (nat_le top size && is_address m.r) (pays m.left m.r (record m {
+        base = m.q;
+        top = top;
+        greatest = max m.greatest top;
+      })))
   effect Base l a = if l == 0 then gives m.base else in_level l (λ b. gives b)
   effect Kinds l a = odd
-  effect Agree l a = reads code next (λ count. cell_word l a (λ place k. reads_order k (λ head. agrees_with k (next + 1) count (formals_handed head))))
+  effect Agree l a = reads code next (λ count. cell_word l a (λ place k. reads_order k (λ head.
+      agrees_with k (next + 1) count (formals_handed head))))
   effect ByVal l a = cell_word l a (λ place k. reads_order k (λ head. looks_in k (formals_handed head)))
   effect CallF l a = cell_word l a (λ place k. reads_order k (λ kinds. calls_kinded (place + 1) kinds (formals_handed kinds)))
 

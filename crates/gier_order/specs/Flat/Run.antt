@@ -41,7 +41,8 @@ with_row s row m = record { regs = m; refs = s.refs ++ row.refs; printed = s.pri
 abbrev pub next_state : List ℕ → State → Row → Step → Move State Final
 next_state code s row (On m) = More (with_row s row m)
 next_state code s row (Ends ending m) = Last (record { ending = ending; state = with_row s row m })
-next_state code s row Odd = Last (record { ending = Spoilt s.regs.place (slice_index code s.regs.place); state = with_row s row s.regs })
+next_state code s row Odd =
+    Last (record { ending = Spoilt s.regs.place (slice_index code s.regs.place); state = with_row s row s.regs })
 
 -- one order of an object, over a stack with so many words
 abbrev pub one : List ℕ → ℕ → State → Move State Final
@@ -64,8 +65,8 @@ abbrev pub enough : List ℕ → State → ℕ
 enough code s = suc (rounds (length code) (suc (great s)))
 
 -- all registers and words begin as 0
-abbrev pub initial_state : (start : ℕ) → List ℕ → (steps : ℕ) → State
-initial_state start input steps = record {
+abbrev pub machine_at_start : (start : ℕ) → List ℕ → (steps : ℕ) → State
+machine_at_start start input steps = record {
   regs = record {
     place = start;
     r = 0;
@@ -116,4 +117,6 @@ final_of s Unfinished = record { ending = Spoilt s.regs.place 0; state = s }
 -- the flat run of an object from a start, with these data, so many steps and so many stack words
 abbrev pub flat : List ℕ → (start : ℕ) → List ℕ → (steps size : ℕ) → Report
 flat code start input steps size =
-    report_of steps (final_of (initial_state start input steps) (exec (one code size) (enough code (initial_state start input steps)) (initial_state start input steps)))
+    report_of steps
+    (final_of (machine_at_start start input steps) (exec (one code size) (enough code (machine_at_start start input steps))
+    (machine_at_start start input steps)))

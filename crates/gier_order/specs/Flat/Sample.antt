@@ -25,7 +25,16 @@ evaluation words entered_by = record { shape = Evaluation; words = words; entere
 
 abbrev pub report : List ℕ → Ending → (steps words : ℕ) → List ℕ → ℕ → List Live → List ℕ → Report
 report printed ending steps words left place live refs =
-    record { printed = printed; ending = ending; steps = steps; words = words; left = left; place = place; live = live; refs = refs }
+    record {
+      printed = printed;
+      ending = ending;
+      steps = steps;
+      words = words;
+      left = left;
+      place = place;
+      live = live;
+      refs = refs;
+    }
 
 pub record Sample : Type 0 where
   pub object : List ℕ

@@ -3,7 +3,7 @@ use Rattle.gier_order.specs.Flat.Row.{Row}
 use Rattle.gier_order.specs.Flat.Rows.{word_at, reads_order, calls_kinded}
 use Rattle.gier_order.specs.Flat.Kinds.{formals_handed}
 use Rattle.gier_exec.specs.Rows.{regs_of, code_in}
-use Rattle.gier_exec.specs.Calling.{entering}
+use Rattle.gier_exec.specs.Calling.{entry_row}
 use Rattle.gier_exec.specs.declared.stop.Miss.TheVariants.{Stop as Stopped}
 use Rattle.gier_exec.specs.declared.activations.Entry.{Entry}
 use Rattle.gier_exec.proofs.FrameReads.{led}
@@ -17,7 +17,7 @@ returns-in-Err-clause-row g c = λ tracks input told agrees entered.
     let m = c.args.m.now in
     let regs = regs_of m c.args.frames.now input in
     let at : ℕ → ℕ → Row = λ place k. reads_order code size regs k (λ head. calls_kinded code size regs (place + 1) head (formals_handed head)) in
-    search_refused _ _ _ regs (entering code size regs) c.in-Err.stop (c.in-Err.ensures.row code input m (λ place. word_at code size regs place (λ k. at place k)) entered)
+    search_refused _ _ _ regs (entry_row code size regs) c.in-Err.stop (c.in-Err.ensures.row code input m (λ place. word_at code size regs place (λ k. at place k)) entered)
 
 pub returns-in-Err-read-clause-row : goal.returns-in-Err-read-clause-row
 returns-in-Err-read-clause-row g c = λ tracks input told agrees entered.
@@ -26,7 +26,7 @@ returns-in-Err-read-clause-row g c = λ tracks input told agrees entered.
     let m = c.args.m.now in
     let regs = regs_of m c.args.frames.now input in
     let at : ℕ → ℕ → Row = λ place k. reads_order code size regs k (λ head. calls_kinded code size regs (place + 1) head (formals_handed head)) in
-    search_refused _ _ _ regs (entering code size regs) c.in-Err-read.stop
+    search_refused _ _ _ regs (entry_row code size regs) c.in-Err-read.stop
     (led _ _ c.in-Err-read.stop (c.in-Ok.ensures.row code input m (λ place. word_at code size regs place (λ k. at place k)) entered)
     (c.in-Err-read.ensures.row code input m (λ k. at c.in-Ok.place k) entered))
 
@@ -37,10 +37,10 @@ returns-in-Err-find_kinded-clause-row g c = λ tracks input told agrees entered.
     let m = c.args.m.now in
     let regs = regs_of m c.args.frames.now input in
     let at : ℕ → ℕ → Row = λ place k. reads_order code size regs k (λ head. calls_kinded code size regs (place + 1) head (formals_handed head)) in
-    let found : Entry → Row = λ e. word_at code size regs (c.in-Ok.place + 1) (λ outer. entering code size regs (record e { outer = outer; from = m.r })) in
-    search_as _ _ _ _ _ regs (entering code size regs) (Err c.in-Err-find_kinded.miss)
+    let found : Entry → Row = λ e. word_at code size regs (c.in-Ok.place + 1) (λ outer. entry_row code size regs (record e { outer = outer; from = m.r })) in
+    search_as _ _ _ _ _ regs (entry_row code size regs) (Err c.in-Err-find_kinded.miss)
     (c.in-Ok.ensures.row code input m (λ place. word_at code size regs place (λ k. at place k)) entered ∙ c.in-Ok-read.ensures.row code input m (λ k. at c.in-Ok.place k) entered)
-    (search_other _ _ _ _ regs found (entering code size regs) c.in-Err-find_kinded.miss (c.in-Err-find_kinded.ensures.row tracks size regs (c.in-Ok.place + 1) told agrees))
+    (search_other _ _ _ _ regs found (entry_row code size regs) c.in-Err-find_kinded.miss (c.in-Err-find_kinded.ensures.row tracks size regs (c.in-Ok.place + 1) told agrees))
 
 pub returns-in-Ok-read-2-clause-row : goal.returns-in-Ok-read-2-clause-row
 returns-in-Ok-read-2-clause-row g c = λ tracks input told agrees entered.
@@ -50,13 +50,13 @@ returns-in-Ok-read-2-clause-row g c = λ tracks input told agrees entered.
     let regs = regs_of m c.args.frames.now input in
     let e = c.in-Ok-find_kinded.entry in
     let at : ℕ → ℕ → Row = λ place k. reads_order code size regs k (λ head. calls_kinded code size regs (place + 1) head (formals_handed head)) in
-    let found : Entry → Row = λ e. word_at code size regs (c.in-Ok.place + 1) (λ outer. entering code size regs (record e { outer = outer; from = m.r })) in
+    let found : Entry → Row = λ e. word_at code size regs (c.in-Ok.place + 1) (λ outer. entry_row code size regs (record e { outer = outer; from = m.r })) in
     let made : Entry = record e { outer = c.in-Ok-read-2.outer; from = c.r.result } in
-    search_as _ _ _ _ _ regs (entering code size regs) (Ok made)
+    search_as _ _ _ _ _ regs (entry_row code size regs) (Ok made)
     (c.in-Ok.ensures.row code input m (λ place. word_at code size regs place (λ k. at place k)) entered ∙ c.in-Ok-read.ensures.row code input m (λ k. at c.in-Ok.place k) entered)
-    (search_found _ _ _ _ regs found e (entering code size regs) made (c.in-Ok-find_kinded.ensures.row tracks size regs (c.in-Ok.place + 1) told agrees)
-    (c.in-Ok-read-2.ensures.row code input m (λ outer. entering code size regs (record e { outer = outer; from = m.r })) entered
-    ∙ ap (λ n. entering code size regs (record e { outer = c.in-Ok-read-2.outer; from = n })) (sym c.r.ensures.value)))
+    (search_found _ _ _ _ regs found e (entry_row code size regs) made (c.in-Ok-find_kinded.ensures.row tracks size regs (c.in-Ok.place + 1) told agrees)
+    (c.in-Ok-read-2.ensures.row code input m (λ outer. entry_row code size regs (record e { outer = outer; from = m.r })) entered
+    ∙ ap (λ n. entry_row code size regs (record e { outer = c.in-Ok-read-2.outer; from = n })) (sym c.r.ensures.value)))
 
 pub returns-in-Err-read-2-clause-row : goal.returns-in-Err-read-2-clause-row
 returns-in-Err-read-2-clause-row g c = λ tracks input told agrees entered.
@@ -66,8 +66,8 @@ returns-in-Err-read-2-clause-row g c = λ tracks input told agrees entered.
     let regs = regs_of m c.args.frames.now input in
     let e = c.in-Ok-find_kinded.entry in
     let at : ℕ → ℕ → Row = λ place k. reads_order code size regs k (λ head. calls_kinded code size regs (place + 1) head (formals_handed head)) in
-    let found : Entry → Row = λ e. word_at code size regs (c.in-Ok.place + 1) (λ outer. entering code size regs (record e { outer = outer; from = m.r })) in
-    search_as _ _ _ _ _ regs (entering code size regs) (Err (Stopped c.in-Err-read-2.stop))
+    let found : Entry → Row = λ e. word_at code size regs (c.in-Ok.place + 1) (λ outer. entry_row code size regs (record e { outer = outer; from = m.r })) in
+    search_as _ _ _ _ _ regs (entry_row code size regs) (Err (Stopped c.in-Err-read-2.stop))
     (c.in-Ok.ensures.row code input m (λ place. word_at code size regs place (λ k. at place k)) entered ∙ c.in-Ok-read.ensures.row code input m (λ k. at c.in-Ok.place k) entered)
-    (search_stops _ _ _ _ regs found e (entering code size regs) c.in-Err-read-2.stop (c.in-Ok-find_kinded.ensures.row tracks size regs (c.in-Ok.place + 1) told agrees)
-    (refused_stops _ regs c.in-Err-read-2.stop (c.in-Err-read-2.ensures.row code input m (λ outer. entering code size regs (record e { outer = outer; from = m.r })) entered)))
+    (search_stops _ _ _ _ regs found e (entry_row code size regs) c.in-Err-read-2.stop (c.in-Ok-find_kinded.ensures.row tracks size regs (c.in-Ok.place + 1) told agrees)
+    (refused_stops _ regs c.in-Err-read-2.stop (c.in-Err-read-2.ensures.row code input m (λ outer. entry_row code size regs (record e { outer = outer; from = m.r })) entered)))

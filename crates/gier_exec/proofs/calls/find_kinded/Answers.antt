@@ -7,7 +7,7 @@ use Rattle.gier_exec.specs.declared.stop.Stop.TheVariants.{Odd}
 use Rattle.gier_exec.specs.declared.stop.Miss.TheVariants.{Stop as Stopped}
 use Rattle.gier_exec.specs.declared.activations.Entry.{Entry}
 use Rattle.gier_exec.specs.Rows.{code_in}
-use Rattle.gier_exec.specs.Calling.{entering}
+use Rattle.gier_exec.specs.Calling.{entry_row}
 use Rattle.gier_exec.proofs.Readings.{reads_joined}
 use Rattle.gier_exec.proofs.SearchReach.{search_told}
 use Rattle.gier_exec.proofs.Searches.{search_as, search_other, search_then, search_found, search_stops}
@@ -17,7 +17,7 @@ use Rattle.gier_exec.proofs.calls.find_kinded.Goals as goal
 pub returns-in-Err-clause-row : goal.returns-in-Err-clause-row
 returns-in-Err-clause-row g c = λ tracks size regs place told agrees.
     let code = code_in tracks c.args.object.now in
-    let found : Entry → Row = λ e. word_at code size regs place (λ outer. entering code size regs (record e { outer = outer; from = regs.r })) in
+    let found : Entry → Row = λ e. word_at code size regs place (λ outer. entry_row code size regs (record e { outer = outer; from = regs.r })) in
     let go : Order → Handed → Row = λ head what. calls_kinded code size regs place head what in
     search_other _ _ _ _ regs (λ (kinds : Order). go kinds (Kinded kinds.level)) found c.in-Err.miss (c.in-Err.ensures.row tracks size regs go (λ head. refl) (λ head. refl) told agrees)
 
@@ -26,7 +26,7 @@ returns-in-Err-find_head-clause-row g c = λ tracks size regs place told agrees.
     let code = code_in tracks c.args.object.now in
     let kinds = c.in-Ok.kinds in
     let a = kinds.address in
-    let found : Entry → Row = λ e. word_at code size regs place (λ outer. entering code size regs (record e { outer = outer; from = regs.r })) in
+    let found : Entry → Row = λ e. word_at code size regs place (λ outer. entry_row code size regs (record e { outer = outer; from = regs.r })) in
     let go : Order → Handed → Row = λ head what. calls_kinded code size regs place head what in
     let first_go : Order → Row = λ kinds. go kinds (Kinded kinds.level) in
     let first = c.in-Ok.ensures.row tracks size regs go (λ head. refl) (λ head. refl) told agrees in
@@ -44,7 +44,7 @@ returns-then-entry-from-clause-row g c = λ tracks size regs place told agrees.
     let code = code_in tracks c.args.object.now in
     let kinds = c.in-Ok.kinds in
     let a = kinds.address in
-    let found : Entry → Row = λ e. word_at code size regs place (λ outer. entering code size regs (record e { outer = outer; from = regs.r })) in
+    let found : Entry → Row = λ e. word_at code size regs place (λ outer. entry_row code size regs (record e { outer = outer; from = regs.r })) in
     let go : Order → Handed → Row = λ head what. calls_kinded code size regs place head what in
     let first_go : Order → Row = λ kinds. go kinds (Kinded kinds.level) in
     let first = c.in-Ok.ensures.row tracks size regs go (λ head. refl) (λ head. refl) told agrees in
@@ -64,7 +64,7 @@ returns-else-entry-from-clause-row g c = λ tracks size regs place told agrees.
     let code = code_in tracks c.args.object.now in
     let kinds = c.in-Ok.kinds in
     let a = kinds.address in
-    let found : Entry → Row = λ e. word_at code size regs place (λ outer. entering code size regs (record e { outer = outer; from = regs.r })) in
+    let found : Entry → Row = λ e. word_at code size regs place (λ outer. entry_row code size regs (record e { outer = outer; from = regs.r })) in
     let go : Order → Handed → Row = λ head what. calls_kinded code size regs place head what in
     let first_go : Order → Row = λ kinds. go kinds (Kinded kinds.level) in
     let first = c.in-Ok.ensures.row tracks size regs go (λ head. refl) (λ head. refl) told agrees in

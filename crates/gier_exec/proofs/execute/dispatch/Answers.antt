@@ -1,4 +1,5 @@
 use Rattle.std.proofs.Common.{[], refl}
+use Rattle.gier_exec.proofs.Pagers.{same_pager}
 use Rattle.gier_exec.proofs.Readings.{reads_nothing}
 use Rattle.gier_exec.proofs.Referrings.{refers_none, length_code}
 use Rattle.gier_exec.proofs.WholeOrders.{NotListed, NotEvaluating, plain_of, entered_of, jump_of, evaluation_of, choice_of, head_odd}
@@ -54,6 +55,7 @@ returns-in_default g c =
       keeps = c.go_on.ensures.keeps;
       goes = c.go_on.ensures.goes;
       size = c.go_on.ensures.size;
+      same_references = same_pager _;
       reads = reads_nothing _ _ _;
       failed = λ e. absurd (c.go_on.ensures.homely e);
       odd = c.go_on.ensures.odd;

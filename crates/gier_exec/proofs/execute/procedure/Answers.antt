@@ -3,7 +3,7 @@ use Rattle.gier_library.proofs.ReadsInOrder.{takes_nothing}
 use Rattle.gier_library.specs.DataView.{stand_of}
 use Rattle.gier_order.specs.Flat.Row.{On}
 use Rattle.gier_exec.specs.Rows.{regs_of, code_in}
-use Rattle.gier_exec.specs.Turning.{told}
+use Rattle.gier_exec.specs.Turning.{printing_row}
 use Rattle.gier_exec.proofs.Referrings.{refers_none, length_code}
 use Rattle.gier_exec.proofs.Turnings.{puts_nothing}
 use Rattle.gier_exec.proofs.Procedures.{next_in, lib_alone, lib_past, lib_is, obeys_by}
@@ -38,7 +38,7 @@ returns-in-Ok-clause-row g c = λ tracks known agrees.
       λ rest l is.
           lib_is s.entered (code_in tracks c.args.object.now) (length s.words) (regs_of c.args.m.now s (did.2 ++ rest)) l c.args.number entered (next_in tracks c.args.object.now c.args.m.now.place lt)
           ∙ did.6 s rest is
-          ∙ ap (λ p. told did.0 did.1 (On (record (regs_of c.library.new.m s rest) { place = p + 1 }))) (sym (c.place.ensures ∙ c.library.ensures.keeps.place)),
+          ∙ ap (λ p. printing_row did.0 did.1 (On (record (regs_of c.library.new.m s rest) { place = p + 1 }))) (sym (c.place.ensures ∙ c.library.ensures.keeps.place)),
     )
 
 pub returns-in-Err-clause-row : goal.returns-in-Err-clause-row

@@ -40,8 +40,8 @@ returns-clause-row g c = λ tracks told agrees.
     let code = code_in tracks object in
     let all : length code ≡ object.words = length_code tracks object in
     let within : c.args.address + (c.in-Ok.length + 4) / 5 < length code = omega (arith, all, c.if-address-div_ceil.false, c.div_ceil.ensures) in
-    let told_mid : g.D.Drum.tracks c.fetch.new.drum ≡ Some tracks = c.fetch.ensures.reads.tracks ∙ told in
-    let agrees_mid : Agrees (Some tracks) c.fetch.new.places.held = subst (λ t. Agrees t c.fetch.new.places.held) told_mid (c.in-Ok.ensures.refers.agrees (subst (λ t. Agrees t c.args.places.now.held) (sym told) agrees)) in
+    let told_mid : g.D.Drum.tracks c.fetch.new.pager.drum.now ≡ Some tracks = c.fetch.ensures.reads.tracks ∙ told in
+    let agrees_mid : Agrees (Some tracks) c.fetch.new.pager.places.now.held = subst (λ t. Agrees t c.fetch.new.pager.places.now.held) told_mid (c.in-Ok.ensures.refers.agrees (subst (λ t. Agrees t c.args.pager.now.places.now.held) (sym told) agrees)) in
     let did = c.print_words.ensures.row tracks told_mid agrees_mid in (
       c.args.address ∷ did.0,
       did.1,

@@ -1,6 +1,7 @@
 use Rattle.std.proofs.Common.{◌≡◌, ◌+◌, ◌/◌, ◌<◌, ◌++◌, [], Some, sym, subst, ◌∙◌, arith}
 use Rattle.gier_places.specs.Contents.{Agrees}
 use Rattle.gier_exec.specs.Rows.{code_in}
+use Rattle.gier_exec.proofs.Pagers.{same_pager, same_pager_both}
 use Rattle.gier_exec.proofs.Readings.{reads_joined, reads_nothing}
 use Rattle.gier_exec.proofs.Referrings.{refers_none, refers_both}
 use Rattle.gier_exec.proofs.Turnings.{puts_nothing}
@@ -8,7 +9,7 @@ use Rattle.gier_exec.proofs.Strings.{puts_both, printed_none, printed_more, prin
 use Rattle.gier_exec.proofs.library.print_words.Goals as goal
 
 pub loop-at-init : goal.loop-at-init
-loop-at-init g c = (reads_nothing 0 _ _, omega arith, λ tracks told agrees. ([], [], refers_none _ _, puts_nothing _, printed_none _ _ _ _))
+loop-at-init g c = (reads_nothing 0 _ _, omega arith, same_pager _, λ tracks told agrees. ([], [], refers_none _ _, puts_nothing _, printed_none _ _ _ _))
 
 pub returns-in-Err-clause-reads : goal.returns-in-Err-clause-reads
 returns-in-Err-clause-reads g c = reads_joined c.loop-at.at 1 ((c.args.length + 4) / 5) _ _ _ _ c.loop-at.invariant.0 c.print_word.ensures.reads (omega (arith, c.div_ceil-at-end.ensures, c.loop-at-test.true))
@@ -16,9 +17,9 @@ returns-in-Err-clause-reads g c = reads_joined c.loop-at.at 1 ((c.args.length + 
 pub returns-in-Err-clause-row : goal.returns-in-Err-clause-row
 returns-in-Err-clause-row g c = λ tracks told agrees.
     let object = c.args.object.now in
-    let so_far = c.loop-at.invariant.2 tracks told agrees in
-    let told_mid : g.D.Drum.tracks c.loop-at.drum ≡ Some tracks = c.loop-at.invariant.0.tracks ∙ told in
-    let agrees_mid : Agrees (Some tracks) c.loop-at.places.held = subst (λ t. Agrees t c.loop-at.places.held) told_mid (so_far.2.agrees (subst (λ t. Agrees t c.args.places.now.held) (sym told) agrees)) in
+    let so_far = c.loop-at.invariant.3 tracks told agrees in
+    let told_mid : g.D.Drum.tracks c.loop-at.pager.drum.now ≡ Some tracks = c.loop-at.invariant.0.tracks ∙ told in
+    let agrees_mid : Agrees (Some tracks) c.loop-at.pager.places.now.held = subst (λ t. Agrees t c.loop-at.pager.places.now.held) told_mid (so_far.2.agrees (subst (λ t. Agrees t c.args.pager.now.places.now.held) (sym told) agrees)) in
     let one = c.in-Err.ensures.row tracks told_mid agrees_mid in
     let lt : c.loop-at.at < (c.args.length + 4) / 5 = omega (arith, c.div_ceil-at-end.ensures, c.loop-at-test.true) in (
       so_far.0 ++ one.0,
@@ -32,11 +33,12 @@ pub loop-at-preserved : goal.loop-at-preserved
 loop-at-preserved g c = (
   reads_joined c.loop-at.at 1 (c.loop-at.at + 1) _ _ _ _ c.loop-at.invariant.0 c.print_word.ensures.reads (omega arith),
   omega (arith, c.loop-at.invariant.1, c.print_word.ensures.sink_later),
+  same_pager_both _ _ _ c.loop-at.invariant.2 c.print_word.ensures.same_references,
   λ tracks told agrees.
       let object = c.args.object.now in
-      let so_far = c.loop-at.invariant.2 tracks told agrees in
-      let told_mid : g.D.Drum.tracks c.loop-at.drum ≡ Some tracks = c.loop-at.invariant.0.tracks ∙ told in
-      let agrees_mid : Agrees (Some tracks) c.loop-at.places.held = subst (λ t. Agrees t c.loop-at.places.held) told_mid (so_far.2.agrees (subst (λ t. Agrees t c.args.places.now.held) (sym told) agrees)) in
+      let so_far = c.loop-at.invariant.3 tracks told agrees in
+      let told_mid : g.D.Drum.tracks c.loop-at.pager.drum.now ≡ Some tracks = c.loop-at.invariant.0.tracks ∙ told in
+      let agrees_mid : Agrees (Some tracks) c.loop-at.pager.places.now.held = subst (λ t. Agrees t c.loop-at.pager.places.now.held) told_mid (so_far.2.agrees (subst (λ t. Agrees t c.args.pager.now.places.now.held) (sym told) agrees)) in
       let one = c.in-Ok.ensures.row tracks told_mid agrees_mid in (
         so_far.0 ++ one.0,
         so_far.1 ++ one.1,
@@ -48,5 +50,5 @@ loop-at-preserved g c = (
 
 pub returns-clause-row : goal.returns-clause-row
 returns-clause-row g c = λ tracks told agrees.
-    let so_far = c.loop-at.invariant.2 tracks told agrees in
+    let so_far = c.loop-at.invariant.3 tracks told agrees in
     (so_far.0, so_far.1, so_far.2, so_far.3, printed_all (code_in tracks c.args.object.now) ((c.args.length + 4) / 5) c.args.address c.args.length c.loop-at.at so_far.0 so_far.1 so_far.4 (omega (arith, c.loop-at-test.false, c.loop-at.auto.at-end, c.div_ceil-at-end.ensures)))

@@ -1,6 +1,6 @@
 use Rattle.std.proofs.Common.{length, subst}
 use Rattle.gier_order.specs.Flat.Rows.{gives, word_at}
-use Rattle.gier_exec.specs.Following.{ComesWith}
+use Rattle.gier_exec.specs.Following.{RefinesResult}
 use Rattle.gier_exec.specs.Rows.{regs_of}
 use Rattle.gier_exec.proofs.RowResults.{gets_comes, value_combined}
 use Rattle.gier_exec.proofs.values.value.Goals as goal
@@ -21,7 +21,7 @@ pub returns-in-Fetch-clause-row : goal.returns-in-Fetch-clause-row
 returns-in-Fetch-clause-row c = λ code input entered next is.
     let regs = regs_of c.args.m.now c.args.frames.now input in
     let size = length c.args.frames.now.words in
-    rw c.in-Fetch.is (subst (λ p. ComesWith (word_at code size regs p (λ word. gives code size regs word)) regs c.read.result) c.r.ensures.value
+    rw c.in-Fetch.is (subst (λ p. RefinesResult (word_at code size regs p (λ word. gives code size regs word)) regs c.read.result) c.r.ensures.value
     (gets_comes code size regs _ c.read.result next (c.read.ensures.row code input c.args.m.now (λ word. gives code size regs word) entered)))
 
 pub returns-in-Index-clause-row : goal.returns-in-Index-clause-row

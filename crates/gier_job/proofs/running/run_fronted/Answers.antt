@@ -1,6 +1,6 @@
 use Rattle.std.proofs.Common.{◌≡◌, ◌≤◌, ◌∙◌, arith, ap, sym, subst, take}
 use Rattle.gier_library.specs.Data.{limit}
-use Rattle.gier_areas.specs.Areas.{first_of, object_first}
+use Rattle.gier_limits.specs.Areas.{first_of, object_first}
 use Rattle.gier_text.specs.SymbolsOnTracks.{text_on}
 use Rattle.gier_text.specs.Potential.{IsWithinPotential}
 use Rattle.gier_exec.specs.Rows.{code_in}
@@ -20,7 +20,7 @@ returns-in-Ok-conclude-clause-runs g c = λ tracks bytes told left is.
     let at : object.first_track ≡ object_first = c.in-Ok.ensures.object.place in
     let behind : object_first ≤ object.first_track = omega (arith, at) in
     let before = told_before (first_of 7) object_first (g.D.Drum.tracks c.run-ending.new.drum) (g.D.Drum.tracks c.conclude.new.drum) tracks
-    c.conclude.ensures.tracks told in
+    c.conclude.ensures.stops.keeps.same_tracks told in
     let made_on = told_through (g.D.Drum.tracks c.back.new.drum) (g.D.Drum.tracks c.run-ending.new.drum) before.0 run.reads.tracks before.1 in
     let same = code_kept (first_of 7) object_first before.0 tracks object before.2 behind in (
       object,

@@ -1,14 +1,17 @@
 use Rattle.std.proofs.Common.{◌++◌, codes, decimal}
-use Rattle.std.proofs.lemmas.Result.{on_err_weaker}
-use Rattle.gier_front.proofs.Prints.{part_first, part_second}
+use Rattle.gier_io.specs.View.{sink_view}
+use Rattle.gier_io.proofs.Prints.{puts_behind, fails_before}
 use Rattle.gier_job.proofs.tails.put_move.Goals as goal
 
-pub returns-in-Ok-clause-part : goal.returns-in-Ok-clause-part
-returns-in-Ok-clause-part g c =
-    let put = rw c.from.ensures at c.in-Ok.ensures.put in
-    on_err_weaker c.put_named-in-Ok.result (part_second (g.K.Sink.holds c.args.out.now) (g.K.Sink.holds c.put_named.new.out) (g.K.Sink.holds c.put_named-in-Ok.new.out) (codes " " ++ decimal c.args.transfer.0) (codes "/" ++ decimal c.args.transfer.1) put) (rw c.from-in-Ok.ensures at c.put_named-in-Ok.ensures.part)
+pub returns-in_err-put_named : goal.returns-in_err-put_named
+returns-in_err-put_named g c =
+    let view = sink_view g.K.Sink.holds g.K.Sink.faults in
+    fails_before (codes " " ++ decimal c.args.transfer.0) (codes "/" ++ decimal c.args.transfer.1) (view c.args.out.now) (view c.put_named.new.out) c.in_err-put_named.field-0.0 c.from_residual.result c.from_residual.ensures.0
+    (rw c.from.ensures at c.in_err-put_named.ensures)
 
-pub returns-in-Err-clause-part : goal.returns-in-Err-clause-part
-returns-in-Err-clause-part g c =
-    let part = rw c.from.ensures at c.in-Err.ensures.part in
-    part_first (g.K.Sink.holds c.args.out.now) (g.K.Sink.holds c.put_named.new.out) (codes " " ++ decimal c.args.transfer.0) (codes "/" ++ decimal c.args.transfer.1) part
+pub returns : goal.returns
+returns g c =
+    let view = sink_view g.K.Sink.holds g.K.Sink.faults in
+    let first = rw c.from.ensures at c.in_ok-put_named.ensures in
+    puts_behind (codes " " ++ decimal c.args.transfer.0) (codes "/" ++ decimal c.args.transfer.1) (view c.args.out.now) (view c.put_named.new.out) (view c.put_named-2.new.out) c.put_named-2.result
+    first.put first.cause.later (rw c.from-2.ensures at c.put_named-2.ensures)

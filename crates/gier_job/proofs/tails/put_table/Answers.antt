@@ -1,15 +1,17 @@
 use Rattle.std.proofs.Common.{◌++◌, codes}
-use Rattle.std.proofs.lemmas.Result.{on_err_weaker}
+use Rattle.gier_io.specs.View.{sink_view}
+use Rattle.gier_io.proofs.Prints.{puts_behind, fails_before}
 use Rattle.gier_job.specs.Tails.{numbers_text}
-use Rattle.gier_front.proofs.Prints.{part_first, part_second}
 use Rattle.gier_job.proofs.tails.put_table.Goals as goal
 
-pub returns-in-Ok-clause-part : goal.returns-in-Ok-clause-part
-returns-in-Ok-clause-part g c =
-    let put = c.in-Ok.ensures.put in
-    on_err_weaker c.put_row.result (part_second (g.K.Sink.holds c.args.out.now) (g.K.Sink.holds c.put.new.self) (g.K.Sink.holds c.put_row.new.out) (codes "\n*** table") (numbers_text c.args.misses.now ++ codes "\n") put) c.put_row.ensures.part
+pub returns-in_err-put : goal.returns-in_err-put
+returns-in_err-put g c =
+    let view = sink_view g.K.Sink.holds g.K.Sink.faults in
+    fails_before (codes "\n*** table") (numbers_text c.args.misses.now ++ codes "\n") (view c.args.out.now) (view c.put.new.self) c.in_err-put.field-0.0 c.from_residual.result c.from_residual.ensures.0
+    (record { put = tt; part = c.in_err-put.ensures.part; cause = c.in_err-put.ensures.cause })
 
-pub returns-in-Err-clause-part : goal.returns-in-Err-clause-part
-returns-in-Err-clause-part g c =
-    let part = c.in-Err.ensures.part in
-    part_first (g.K.Sink.holds c.args.out.now) (g.K.Sink.holds c.put.new.self) (codes "\n*** table") (numbers_text c.args.misses.now ++ codes "\n") part
+pub returns : goal.returns
+returns g c =
+    let view = sink_view g.K.Sink.holds g.K.Sink.faults in
+    puts_behind (codes "\n*** table") (numbers_text c.args.misses.now ++ codes "\n") (view c.args.out.now) (view c.put.new.self) (view c.put_row.new.out) c.put_row.result
+    c.in_ok-put.ensures.put c.put.ensures.cause.later c.put_row.ensures

@@ -1,6 +1,9 @@
 -- Small objects that call procedures, evaluate names, and go to labels, and what a flat run makes of them, by the same model.
 use Rattle.std.specs.Prelude.{List, [], ◌∷◌}
-use Rattle.gier_order.specs.declared.operation.Operation.TheVariants.{Start, Stop, Take, Short, Keep, Addr, Add, Mul, Jump, False, Block, Leave, Proc, Call, Formal, Return, Thunk, Value, Place, NameL, Pass, Back, Give, Lib, Switch, SwForm, Lab, Go, Base, Kinds, Agree, ByVal, CallF}
+use Rattle.gier_order.specs.declared.operation.Operation.TheVariants.{Start, Stop, Take, Short, Keep, Addr, Add, Mul, Jump, False}
+use Rattle.gier_order.specs.declared.operation.Operation.TheVariants.{Block, Leave, Proc, Call, Formal, Return, Thunk, Value}
+use Rattle.gier_order.specs.declared.operation.Operation.TheVariants.{Place, NameL, Pass, Back, Give, Lib, Switch, SwForm, Lab}
+use Rattle.gier_order.specs.declared.operation.Operation.TheVariants.{Go, Base, Kinds, Agree, ByVal, CallF}
 use Rattle.gier_order.specs.Flat.Row.{Ended}
 use Rattle.gier_order.specs.Flat.Sample.{Sample, sample, order, report, program}
 
@@ -59,7 +62,8 @@ passed_on = sample
     order Lib 0 1 ∷ order Stop 0 0 ∷ [])
     [] 20 60
     (report (51 ∷ 48 ∷ 51 ∷ []) Ended 4 21 [] 22 (program 11 ∷ [])
-    (0 ∷ 1 ∷ 2 ∷ 3 ∷ 10 ∷ 11 ∷ 12 ∷ 13 ∷ 14 ∷ 15 ∷ 16 ∷ 17 ∷ 18 ∷ 7 ∷ 8 ∷ 4 ∷ 5 ∷ 6 ∷ 9 ∷ 19 ∷ 20 ∷ 7 ∷ 8 ∷ 4 ∷ 5 ∷ 6 ∷ 9 ∷ 21 ∷ 22 ∷ []))
+    (0 ∷ 1 ∷ 2 ∷ 3 ∷ 10 ∷ 11 ∷ 12 ∷ 13 ∷ 14 ∷ 15 ∷ 16 ∷ 17 ∷ 18 ∷ 7 ∷ 8 ∷ 4 ∷ 5 ∷ 6 ∷ 9 ∷ 19 ∷ 20 ∷ 7 ∷ 8 ∷ 4 ∷ 5 ∷ 6
+    ∷ 9 ∷ 21 ∷ 22 ∷ []))
 
 -- a go to that leaves a procedure, by a label formal
 abbrev pub label_formal : Sample

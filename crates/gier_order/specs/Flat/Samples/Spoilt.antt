@@ -1,6 +1,8 @@
 -- Small objects with an order that is not allowed in its place, by the same model.
 use Rattle.std.specs.Prelude.{List, [], ◌∷◌}
-use Rattle.gier_order.specs.declared.operation.Operation.TheVariants.{Start, Stop, Take, Short, Keep, Addr, Fetch, Mul, Not, Jump, False, Leave, Proc, Call, Formal, Return, Thunk, Value, Back, Give, Lib, Base, Kinds, Agree, ByVal, CallF}
+use Rattle.gier_order.specs.declared.operation.Operation.TheVariants.{Start, Stop, Take, Short, Keep, Addr, Fetch, Mul, Not, Jump}
+use Rattle.gier_order.specs.declared.operation.Operation.TheVariants.{False, Leave, Proc, Call, Formal, Return, Thunk, Value}
+use Rattle.gier_order.specs.declared.operation.Operation.TheVariants.{Back, Give, Lib, Base, Kinds, Agree, ByVal, CallF}
 use Rattle.gier_order.specs.Flat.Row.{Spoilt}
 use Rattle.gier_order.specs.Flat.Sample.{Sample, sample, order, report, program, procedure}
 

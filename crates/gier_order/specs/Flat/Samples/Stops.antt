@@ -1,7 +1,11 @@
 -- Small objects whose runs end by an alarm or by a step that is not left, by the same model.
 use Rattle.std.specs.Prelude.{List, [], ◌∷◌}
-use Rattle.gier_word.specs.declared.alarm.Alarm.TheVariants.{Spill, Division, Power, Bounds, Subscript, Assignment, Character, Data, Stack, Parameters}
-use Rattle.gier_order.specs.declared.operation.Operation.TheVariants.{Start, Stop, Take, Short, Long, Keep, Addr, Fetch, Put, Add, Mul, Div, Pow, Neg, Jump, False, Test, Block, Array, Index, Proc, Call, Formal, Return, Thunk, Value, Place, NameL, Back, Give, Lib, Lab, Go, Base, Kinds, Agree, ByVal, CallF}
+use Rattle.gier_word.specs.declared.alarm.Alarm.TheVariants.{Spill, Division, Power, Bounds, Subscript, Assignment, Character}
+use Rattle.gier_word.specs.declared.alarm.Alarm.TheVariants.{Data, Stack, Parameters}
+use Rattle.gier_order.specs.declared.operation.Operation.TheVariants.{Start, Stop, Take, Short, Long, Keep, Addr, Fetch, Put, Add}
+use Rattle.gier_order.specs.declared.operation.Operation.TheVariants.{Mul, Div, Pow, Neg, Jump, False, Test, Block, Array, Index}
+use Rattle.gier_order.specs.declared.operation.Operation.TheVariants.{Proc, Call, Formal, Return, Thunk, Value, Place, NameL}
+use Rattle.gier_order.specs.declared.operation.Operation.TheVariants.{Back, Give, Lib, Lab, Go, Base, Kinds, Agree, ByVal, CallF}
 use Rattle.gier_order.specs.Flat.Row.{Alarmed, NoSteps}
 use Rattle.gier_order.specs.Flat.Sample.{Sample, sample, order, report, program, procedure, evaluation}
 

@@ -1,7 +1,10 @@
 -- Small objects whose orders are about values, blocks, arrays and the standard procedures, and what a flat run makes of
 -- them. What it makes of them was computed by a model in another language.
 use Rattle.std.specs.Prelude.{List, [], ◌∷◌}
-use Rattle.gier_order.specs.declared.operation.Operation.TheVariants.{Start, Stop, Take, Short, Long, Keep, Addr, Fetch, Put, Add, Sub, Mul, Div, Pow, Neg, Lt, Le, Eq, Ge, Gt, Ne, Not, And, Or, Impl, Equiv, Jump, False, Test, Turn, Block, Leave, Array, Index, Lib}
+use Rattle.gier_order.specs.declared.operation.Operation.TheVariants.{Start, Stop, Take, Short, Long, Keep, Addr, Fetch, Put, Add}
+use Rattle.gier_order.specs.declared.operation.Operation.TheVariants.{Sub, Mul, Div, Pow, Neg, Lt, Le, Eq, Ge, Gt, Ne, Not, And}
+use Rattle.gier_order.specs.declared.operation.Operation.TheVariants.{Or, Impl, Equiv, Jump, False, Test, Turn, Block, Leave}
+use Rattle.gier_order.specs.declared.operation.Operation.TheVariants.{Array, Index, Lib}
 use Rattle.gier_order.specs.Flat.Row.{Ended}
 use Rattle.gier_order.specs.Flat.Sample.{Sample, sample, order, report, program}
 
@@ -108,7 +111,8 @@ array = sample
     order Put 0 10 ∷ order Take 1 10 ∷ order Lib 0 1 ∷ order Fetch 0 0 ∷ order Lib 0 1 ∷ order Stop 0 0 ∷ [])
     [] 20 60
     (report (50 ∷ 49 ∷ 55 ∷ 55 ∷ []) Ended 0 22 [] 26 (program 22 ∷ [])
-    (0 ∷ 1 ∷ 2 ∷ 3 ∷ 4 ∷ 5 ∷ 6 ∷ 7 ∷ 8 ∷ 9 ∷ 10 ∷ 11 ∷ 12 ∷ 13 ∷ 14 ∷ 15 ∷ 16 ∷ 17 ∷ 18 ∷ 19 ∷ 20 ∷ 21 ∷ 22 ∷ 23 ∷ 24 ∷ 25 ∷ 26 ∷ []))
+    (0 ∷ 1 ∷ 2 ∷ 3 ∷ 4 ∷ 5 ∷ 6 ∷ 7 ∷ 8 ∷ 9 ∷ 10 ∷ 11 ∷ 12 ∷ 13 ∷ 14 ∷ 15 ∷ 16 ∷ 17 ∷ 18 ∷ 19 ∷ 20 ∷ 21 ∷ 22 ∷ 23
+    ∷ 24 ∷ 25 ∷ 26 ∷ []))
 
 -- a string of seven bytes, a byte, a new line
 abbrev pub printing : Sample

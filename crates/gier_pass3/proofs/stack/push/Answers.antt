@@ -2,11 +2,12 @@ use Rattle.std.proofs.Common.{◌+◌, ◌∙◌, [], ◌∷◌, ap, arith}
 use Rattle.std.proofs.lemmas.List.{get_or-set_same}
 use Rattle.gier_text.specs.TablesModel.{TablesModel, tables_model}
 use Rattle.gier_text.specs.Lists.{TableList, list_at, no_list, with_entry}
-use Rattle.gier_pass3.specs.Items.{credit_in}
+use Rattle.gier_pass3.specs.Lists.{credit_in}
 use Rattle.gier_pass3.specs.Lists.{stack_in}
 use Rattle.gier_pass3.proofs.Credit.{credit_pushed}
 use Rattle.gier_pass3.proofs.StackWords.{stack_words}
 use Rattle.gier_pass3.proofs.ItemWords.{read_pushed, items_pushed}
+use Rattle.gier_pass3.proofs.Entering.{entries_pushed}
 use Rattle.gier_pass3.proofs.stack.push.Goals as goal
 
 pub returns-clause-credit : goal.returns-clause-credit
@@ -29,3 +30,10 @@ returns-clause-items c =
     let list = stack_in (tables_model t) in
     let is = ap (λ (k : TablesModel). (list_at k.lists 0).words) c.push.ensures ∙ ap (λ (l : TableList). l.words) (get_or-set_same (tables_model t).lists 0 (with_entry list (c.fold-word.result ∷ [])) no_list (omega (arith, c.requires.lists.lists))) in
     items_pushed list.words (stack_in (tables_model c.push.new.self)).words c.fold-word.result c.args.item c.args.left is c.fold-word.ensures.word
+
+pub returns-clause-entries : goal.returns-clause-entries
+returns-clause-entries c =
+    let t = c.args.tables.now in
+    let list = stack_in (tables_model t) in
+    let is = ap (λ (k : TablesModel). (list_at k.lists 0).words) c.push.ensures ∙ ap (λ (l : TableList). l.words) (get_or-set_same (tables_model t).lists 0 (with_entry list (c.fold-word.result ∷ [])) no_list (omega (arith, c.requires.lists.lists))) in
+    entries_pushed list.words (stack_in (tables_model c.push.new.self)).words c.fold-word.result c.args.item c.args.left is c.fold-word.ensures.word

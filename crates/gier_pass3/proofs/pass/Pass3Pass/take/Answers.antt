@@ -5,7 +5,7 @@ use Rattle.gier_text.specs.Potential.{is_numbered}
 use Rattle.gier_text.specs.TablesModel.{tables_model}
 use Rattle.gier_text.proofs.DriveLoop.{OnOk-map}
 use Rattle.gier_pass3.specs.Lists.{ready_by}
-use Rattle.gier_pass3.proofs.GoingOn.{Sees, less_more, both_ok, stands_more, few_more, numbered_at, refuted}
+use Rattle.gier_pass3.proofs.GoingOn.{FaultStep, less_more, both_ok, stands_more, few_more, numbered_at, refuted}
 use Rattle.gier_pass3.proofs.pass.Pass3Pass.take.Goals as goal
 use Rattle.gier_pass3.proofs.pass.Pass3Pass.take.Goals.{then-self-via-then-self, then-self-via-else-self+then-is_unnumbered}
 
@@ -26,8 +26,8 @@ returns-clause-ok g c =
     let new = c.step.new.self in
     let t = tables_model c.args.tables.now in
     let u = tables_model c.step.new.tables in
-    let sees : Sees pass new t u c.symbol-symbol.result = record { stays = λ is. c.step.ensures.stays is; told = λ is. c.step.ensures.told is; follows = λ is bare items. c.step.ensures.follows is bare items } in
-    let sees_it = subst (λ x. Sees pass new t u x) c.symbol-symbol.ensures.value sees in
+    let sees : FaultStep pass new t u c.symbol-symbol.result = record { stays = λ is. c.step.ensures.stays is; told = λ is. c.step.ensures.told is; follows = λ is bare items. c.step.ensures.follows is bare items; silent = λ is. c.step.ensures.silent is; wrote = λ is bare items. c.step.ensures.wrote is bare items } in
+    let sees_it = subst (λ x. FaultStep pass new t u x) c.symbol-symbol.ensures.value sees in
     both_ok c.flush.result _ _ _ (λ wrote emptied. (ready_by u, wrote, λ read written stands. rw emptied (stands_more pass new t u read written c.args.s.symbol stands c.step.ensures.steps sees_it))) c.flush.ensures.written c.flush.ensures.emptied
 
 pub returns-clause-roomy : goal.returns-clause-roomy

@@ -1,0 +1,83 @@
+-- The law, from its premises.
+use Rattle.std.proofs.Common.{ℕ, ◌<◌, false, List, [], length, refl, sym, ap, subst, arith}
+use Rattle.std.specs.Prelude.{◌^◌, ◌||◌}
+use Rattle.gier_symbol.specs.declared.symbol.Symbol.{Symbol}
+use Rattle.gier_order.specs.declared.operation.Operation.TheVariants as op
+use Rattle.gier_order.specs.Flat.Run.{flat}
+use Rattle.gier_tree.specs.Coded.{scopes_of}
+use Rattle.gier_tree.specs.Declaring.{labels_of_program}
+use Rattle.gier_tree.specs.Entries.{entries_numbers, program_entries}
+use Rattle.gier_tree.specs.Hoist.{hoist}
+use Rattle.gier_tree.specs.Need.{need_group}
+use Rattle.gier_tree.specs.Object.{object_of, address_of}
+use Rattle.gier_tree.specs.Orders as code
+use Rattle.gier_tree.specs.Orders.{Following, order, room_order, needs}
+use Rattle.gier_tree.specs.Text7.{code_program, object_words, code_statement}
+use Rattle.gier_tree.specs.Texts.{Where}
+use Rattle.gier_tree.specs.Trees as tree
+use Rattle.gier_tree.specs.Trees.{Program, MkProgram, MkBlock, MkCompound, OneGroup, MkUnconditional, OneUnconditional, Group, LabelPlace}
+use Rattle.gier_meaning.specs.Entry.{live_after_taking}
+use Rattle.gier_meaning.specs.Plain.{statement}
+use Rattle.gier_meaning.specs.Standing.{initial_state}
+use Rattle.gier_meaning.specs.Observation.{observation}
+use Rattle.gier_env.specs.Meaning.{meaning, program_run, within}
+use Rattle.gier_flat.specs.Alike.{TellsTheSame}
+use Rattle.gier_flat.specs.Law.{RunIsMeaning}
+use Rattle.gier_flat.specs.Premises.{Premises, own_labels}
+use Rattle.gier_flat.proofs.Positions.{At, length_from}
+use Rattle.gier_flat.proofs.OrderRows.{object}
+use Rattle.gier_flat.proofs.Setting.{Setting}
+use Rattle.gier_flat.proofs.Labels.{same_program, among_entities}
+use Rattle.gier_flat.proofs.ProgramActivation.{env, places, own, NewLabel, is_new}
+use Rattle.gier_flat.proofs.Programs.{program_told}
+
+module _ (ls : List LabelPlace) (l : ℕ) (s : tree.Statement) (ss : tree.Statements) (n end : ℕ) (h : Premises (MkProgram ls (MkCompound l s ss n) end)) where
+  abbrev g : Group
+  g = MkCompound l s ss n
+
+  abbrev t : Program
+  t = MkProgram ls g end
+
+  abbrev text : List Symbol
+  text = code_program t
+
+  abbrev u : tree.Statement
+  u = OneUnconditional (MkUnconditional ls (OneGroup g))
+
+  abbrev need : ℕ
+  need = need_group (scopes_of (places (labels_of_program t))) g
+
+  abbrev place : Where
+  place = record { level = 1; numbers = entries_numbers (program_entries t); owns = 0 }
+
+  abbrev beyond : Following
+  beyond = λ s. needs need s object_words
+
+  abbrev begun : code.State
+  begun = record { labels = 0; line = l; words = 0 }
+
+  abbrev xs : List ℕ
+  xs = own_labels t
+
+  short : length (object text) < 2 ^ 24
+  short = subst (λ k. k < 2 ^ 24) (sym (length_from text text)) h.short
+
+  stands : At text begun (room_order op.Start 1 3 l begun (λ s. code_statement (places (labels_of_program t)) place u 1 3 s (λ s1. order op.Stop 0 0 l s1 beyond)))
+  stands = record { before = []; whole = refl; count = refl; open_yet = tt }
+
+  of_compound : (input : List ℕ) (steps size : ℕ) → size < 2 ^ 24 → TellsTheSame text (flat (object_of text) 0 input steps size) (meaning size t input steps)
+  of_compound input steps size small =
+      let setting : Setting = record { text = text; size = size; ends = h.stop; small = small; right = h.places; short = short } in
+      let below : (e : ℕ) → e < length xs → address_of text e 0 < length (object text) = λ e lt. subst (λ k. address_of text e 0 < k) (sym (length_from text text)) (h.labels e lt).below in
+      subst (λ room. TellsTheSame text (flat (object_of text) 0 input steps size) (observation steps (program_run size (within size steps) l (statement u) (own xs) (env xs) (live_after_taking size 0 0 room) room (initial_state input steps)))) (sym h.same_room)
+      (program_told setting input steps l (env xs) (places (labels_of_program t)) place u h.part (own xs) (initial_state input steps) begun beyond h.room stands refl h.need refl refl refl refl refl
+      (NewLabel setting input steps (labels_of_program t) xs (same_program ls g) need)
+      (is_new setting input steps (labels_of_program t) xs (same_program ls g) need h.few (λ e lt. (h.labels e lt).above) below)
+      (λ e a i. (among_entities 0 xs e e i.0 (omega arith), ap (λ b. b || false) (h.labels e i.0).within)))
+
+of_program : (t : Program) → Premises t → (input : List ℕ) (steps size : ℕ) → size < 2 ^ 24 → TellsTheSame (code_program t) (flat (object_of (code_program t)) 0 input steps size) (meaning size t input steps)
+of_program (MkProgram ls (MkCompound l s ss n) end) h = of_compound ls l s ss n end h
+of_program (MkProgram ls (MkBlock l d m ds s ss n) end) h = λ input steps size small. absurd h.part.1
+
+pub run_is_meaning : RunIsMeaning
+run_is_meaning t h = of_program (hoist t) h

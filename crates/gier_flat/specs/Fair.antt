@@ -1,0 +1,147 @@
+-- The part of the language for which the law is proved: what it asks of expressions and statements in these places.
+use Rattle.std.proofs.Common.{◌≡◌, ◌<◌, List, [], ◌∷◌}
+use Rattle.std.specs.Prelude.{⊤}
+use Rattle.gier_tree.specs.declared.kind.Kind.{Kind}
+use Rattle.gier_tree.specs.declared.kind.Kind.TheVariants.{IntegerVariable, BooleanVariable, IntegerValue, BooleanValue, Label}
+use Rattle.gier_tree.specs.declared.kind.Kind.TheVariants.{OutInteger, OutCr}
+use Rattle.gier_tree.specs.Places.{Places, program_places}
+use Rattle.gier_tree.specs.Trees.{Expr, OneSimple, IfExpr, Simple, OneImplication, Equivalent, Implication, OneDisjunction}
+use Rattle.gier_tree.specs.Trees.{Implies, Disjunction, OneConjunction, Either, Conjunction, OneNegation, Both, Negation}
+use Rattle.gier_tree.specs.Trees.{OneRelation, Negated, Relation, OneArithmetic, Compared, Arithmetic, OneTerm, Signed, Summed}
+use Rattle.gier_tree.specs.Trees.{Term, OneFactor, Multiplied, Factor, OnePrimary, Raised, Primary, Numeral, Logical, Bracketed}
+use Rattle.gier_tree.specs.Trees.{OneCall, OneElement, Call, Alone, WithActuals, OneExpr, NoActuals, LeftSide, OneName}
+use Rattle.gier_tree.specs.Trees.{LeftElement, LeftPart, LabelPlace, Group, MkBlock, MkCompound, Statements, NoStatements}
+use Rattle.gier_tree.specs.Trees.{MoreStatements, Statement, OneUnconditional, OneConditional, OneLoop, Unconditional}
+use Rattle.gier_tree.specs.Trees.{MkUnconditional, Basic, OneGroup, Assign, Jump, CallStatement, Dummy, Conditional, IfThen}
+use Rattle.gier_tree.specs.Trees.{IfElse, IfLoop, Program, MkProgram}
+
+abbrev pub IsCell : Kind → Type 0
+IsCell IntegerVariable = ⊤
+IsCell BooleanVariable = ⊤
+IsCell IntegerValue = ⊤
+IsCell BooleanValue = ⊤
+IsCell kind = ⊥
+
+module _ (p : Places) where
+  abbrev mutual
+    pub FairExpr : Expr → Type 0
+    FairExpr (OneSimple s) = FairSimple s
+    FairExpr (IfExpr l c m s n e) = FairExpr c × FairSimple s × FairExpr e
+
+    pub FairSimple : Simple → Type 0
+    FairSimple (OneImplication i) = FairImplication i
+    FairSimple (Equivalent s l i) = FairSimple s × FairImplication i
+
+    pub FairImplication : Implication → Type 0
+    FairImplication (OneDisjunction d) = FairDisjunction d
+    FairImplication (Implies i l d) = FairImplication i × FairDisjunction d
+
+    pub FairDisjunction : Disjunction → Type 0
+    FairDisjunction (OneConjunction c) = FairConjunction c
+    FairDisjunction (Either d l c) = FairDisjunction d × FairConjunction c
+
+    pub FairConjunction : Conjunction → Type 0
+    FairConjunction (OneNegation n) = FairNegation n
+    FairConjunction (Both c l n) = FairConjunction c × FairNegation n
+
+    pub FairNegation : Negation → Type 0
+    FairNegation (OneRelation r) = FairRelation r
+    FairNegation (Negated l r) = FairRelation r
+
+    pub FairRelation : Relation → Type 0
+    FairRelation (OneArithmetic a) = FairArithmetic a
+    FairRelation (Compared a o l b) = FairArithmetic a × FairArithmetic b
+
+    pub FairArithmetic : Arithmetic → Type 0
+    FairArithmetic (OneTerm t) = FairTerm t
+    FairArithmetic (Signed o l t) = FairTerm t
+    FairArithmetic (Summed a o l t) = FairArithmetic a × FairTerm t
+
+    pub FairTerm : Term → Type 0
+    FairTerm (OneFactor f) = FairFactor f
+    FairTerm (Multiplied t o l f) = FairTerm t × FairFactor f
+
+    pub FairFactor : Factor → Type 0
+    FairFactor (OnePrimary q) = FairPrimary q
+    FairFactor (Raised f l q) = FairFactor f × FairPrimary q
+
+    pub FairPrimary : Primary → Type 0
+    FairPrimary (Numeral n l) = n < 549755813888
+    FairPrimary (Logical b l) = ⊤
+    FairPrimary (Bracketed l e m) = FairExpr e
+    FairPrimary (OneCall c) = FairCall c
+    FairPrimary (OneElement e) = ⊥
+
+    pub FairCall : Call → Type 0
+    FairCall (Alone x) = IsCell (p x.number).what.kind
+    FairCall (WithActuals x l a more m) = ⊥
+
+  -- designational expressions
+  abbrev mutual
+    pub FairTarget : Expr → Type 0
+    FairTarget (OneSimple s) = FairTargetSimple s
+    FairTarget (IfExpr l c m s n e) = FairExpr c × FairTargetSimple s × FairTarget e
+
+    pub FairTargetSimple : Simple → Type 0
+    FairTargetSimple (OneImplication
+        (OneDisjunction (OneConjunction (OneNegation (OneRelation (OneArithmetic (OneTerm (OneFactor (OnePrimary q))))))))) =
+        FairTargetPrimary q
+    FairTargetSimple s = ⊥
+
+    pub FairTargetPrimary : Primary → Type 0
+    FairTargetPrimary (Bracketed l e m) = FairTarget e
+    FairTargetPrimary (OneCall (Alone x)) = (p x.number).what.kind ≡ Label
+    FairTargetPrimary q = ⊥
+
+  abbrev pub FairLabels : List LabelPlace → Type 0
+  FairLabels [] = ⊤
+  FairLabels (l ∷ ls) = ((p l.name.number).what.kind ≡ Label) × FairLabels ls
+
+  abbrev pub FairLeft : LeftSide → Type 0
+  FairLeft (OneName x) = IsCell (p x.number).what.kind
+  FairLeft (LeftElement e) = ⊥
+
+  abbrev pub FairLefts : List LeftPart → Type 0
+  FairLefts [] = ⊤
+  FairLefts (q ∷ qs) = FairLeft q.left × FairLefts qs
+
+  -- what is printed
+  abbrev pub FairCalled : Call → Type 0
+  FairCalled (Alone x) = (p x.number).what.kind ≡ OutCr
+  FairCalled (WithActuals x l (OneExpr e) NoActuals m) = ((p x.number).what.kind ≡ OutInteger) × FairExpr e
+  FairCalled (WithActuals x l a more m) = ⊥
+
+  abbrev mutual
+    pub FairStatement : Statement → Type 0
+    FairStatement (OneUnconditional u) = FairUnconditional u
+    FairStatement (OneConditional c) = FairConditional c
+    FairStatement (OneLoop f) = ⊥
+
+    pub FairStatements : Statements → Type 0
+    FairStatements NoStatements = ⊤
+    FairStatements (MoreStatements l s ss) = FairStatement s × FairStatements ss
+
+    pub FairUnconditional : Unconditional → Type 0
+    FairUnconditional (MkUnconditional ls b) = FairLabels ls × FairBasic b
+
+    pub FairBasic : Basic → Type 0
+    FairBasic (OneGroup g) = FairGroup g
+    FairBasic (Assign q qs e) = FairLeft q.left × FairLefts qs × FairExpr e
+    FairBasic (Jump l e) = FairTarget e
+    FairBasic (CallStatement c) = FairCalled c
+    FairBasic Dummy = ⊤
+
+    pub FairGroup : Group → Type 0
+    FairGroup (MkBlock l d m ds s ss n) = ⊥
+    FairGroup (MkCompound l s ss m) = FairStatement s × FairStatements ss
+
+    pub FairConditional : Conditional → Type 0
+    FairConditional (IfThen ls l e m u) = FairLabels ls × FairExpr e × FairUnconditional u
+    FairConditional (IfElse ls l e m u n s) = FairLabels ls × FairExpr e × FairUnconditional u × FairStatement s
+    FairConditional (IfLoop ls l e m f) = ⊥
+
+-- a program without own quantities and without a block
+abbrev pub FairProgram : Program → Type 0
+FairProgram (MkProgram ls g l) =
+    let p = program_places (MkProgram ls g l) in
+    FairLabels p ls × FairGroup p g

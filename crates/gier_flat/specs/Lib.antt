@@ -1,0 +1,6 @@
+pub mod Words
+pub mod Alike
+pub mod Fair
+pub mod Premises
+pub mod Law
+pub mod Example

@@ -1,0 +1,17 @@
+// The law on the flat run, for the part of the language for which it is proved so far.
+ghost use Rattle.gier_tree.specs.Hoist.{hoist};
+ghost use Rattle.gier_flat.specs.Example.{example};
+ghost use Rattle.gier_flat.specs.Law.{RunIsMeaning};
+ghost use Rattle.gier_flat.specs.Premises.{Premises};
+
+/// Of each program of that part whose premises hold, with all data, permitted steps and words of stack, the flat run of its code
+/// tells the printed bytes, the ending, the steps charged, the greatest live words and the data left that the meaning with
+/// environments tells; and where it stops, it does so at the line and with the live activations that the meaning tells.
+pub fn law_flat()
+    ensures { RunIsMeaning }
+{}
+
+/// The premises hold of a program with a label, a conditional statement with a go to it, and printing.
+pub fn law_flat_example()
+    ensures { Premises (hoist example) }
+{}

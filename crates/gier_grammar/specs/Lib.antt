@@ -1,0 +1,5 @@
+pub mod GrammarSymbols
+pub mod Productions
+pub mod ParseTable
+pub mod Paying
+pub mod StackEntries

@@ -1,0 +1,5 @@
+pub mod Operands
+pub mod Expressions
+pub mod Parts
+pub mod Statements
+pub mod Programs

@@ -1,0 +1,3 @@
+pub mod Marks
+pub mod PurePass
+pub mod Text3
