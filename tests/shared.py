@@ -48,8 +48,8 @@ def blocks(document):
 
 def orders():
     """(name and fields, effect) of each order, as the code has them; the first has number 1."""
-    return re.findall(r"^    /// ([A-Z]+(?: [a-z, ]+)?): (.*?)\.?\n    \w+(?: = 1)?,$",
-                      text_of("crates/gier_order/src/operation.rt"), re.M)
+    code = re.sub(r"\n    /// (?![A-Z]+(?: [a-z, ]+)?: )", " ", text_of("crates/gier_order/src/operation.rt"))
+    return re.findall(r"^    /// ([A-Z]+(?: [a-z, ]+)?): (.*?)\.?\n    \w+(?: = 1)?,$", code, re.M)
 
 
 def cases_of(path):
