@@ -2,9 +2,12 @@
 of the repository, and random programs by their seeds. It tests nothing itself."""
 import difflib
 import json
+import os
 import random
 import re
+import select
 import sys
+import time
 from pathlib import Path
 
 from model import programs
@@ -18,6 +21,9 @@ CLEAR_LINE = "\r\x1b[K"
 
 # Damages of a random program: none, some, or either.
 DAMAGES = {"fresh": [0], "damaged": [1, 2, 3], "mixed": [0, 0, 1, 1, 2, 3]}
+
+# So long what comes from a pipe is waited for, in seconds.
+PATIENCE = 20
 
 LARGEST_SIZE, GREATEST_HAZARD = 20, 3
 
@@ -71,6 +77,19 @@ def generated(seed, damages="fresh", largest=LARGEST_SIZE):
     chance = random.Random(seed)
     size, hazard = chance.randint(4, largest), chance.randint(0, GREATEST_HAZARD)
     return programs.tape_of(seed, chance.choice(DAMAGES[damages]), size=size, hazard=hazard)
+
+
+def printed_until(output, wanted):
+    """What comes from a pipe until it ends with these bytes, or ends, or is waited for in vain."""
+    got = b""
+    until = time.monotonic() + PATIENCE
+    while not got.endswith(wanted) and time.monotonic() < until:
+        if select.select([output], [], [], 0.1)[0]:
+            more = os.read(output.fileno(), 1000)
+            if not more:
+                break
+            got += more
+    return got
 
 
 class Telling:
