@@ -15,13 +15,7 @@ const QUOTED: u8 = b'!';
 
 /// Explains each line of a printed list of errors on standard error: where it stands, what is wrong and what to do, and the
 /// source line where the tape is the file with this path. `name` is the program that speaks.
-pub fn explain(
-    rt: &impl Eprint,
-    name: &str,
-    path: Option<&str>,
-    printed: &[u8],
-    text: &[u8],
-) {
+pub fn explain(rt: &impl Eprint, name: &str, path: Option<&str>, printed: &[u8], text: &[u8]) {
     for line in printed.split(|byte| *byte == b'\n') {
         if let Ok(line) = str::from_utf8(line) {
             explain_line(rt, name, path, line, text);
