@@ -47,9 +47,10 @@ def blocks(document):
 
 
 def orders():
-    """(name and fields, effect) of each order, as the code has them; the first has number 1."""
-    return re.findall(r"^    /// ([A-Z]+(?: [a-z, ]+)?): (.*?)\.?\n    \w+(?: = 1)?,$",
-                      text_of("crates/gier_order/src/operation.rt"), re.M)
+    """(name and fields, effect) of each order, as the code has them; the first has number 1. A comment may go on over several lines."""
+    code = text_of("crates/gier_order/src/operation.rt").replace("\n    /// ", "\n/// ")
+    rows = re.findall(r"^/// ([A-Z]+(?: [a-z, ]+)?): (.*(?:\n/// .*)*)\n    \w+(?: = 1)?,$", code, re.M)
+    return [(name, effect.replace("\n/// ", " ").removesuffix(".")) for name, effect in rows]
 
 
 def cases_of(path):
