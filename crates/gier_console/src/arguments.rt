@@ -50,11 +50,11 @@ pub fn read_command_line(
 
 // The word with this number, where it is text that has the form of a path.
 fn read_path(env: &impl Env, alloc: Global, at: usize) -> Result<Option<String>, AllocError> {
-    let mut bytes = [0u8; LONGEST_PATH];
-    let Ok(length) = env.arg(at, &mut bytes) else {
+    let mut path = [0u8; LONGEST_PATH];
+    let Ok(length) = env.arg(at, &mut path) else {
         return Ok(None);
     };
-    let word = text_of(&bytes[..length]);
+    let word = text_of(&path[..length]);
     if is_path(word) {
         Ok(Some(String::from_str(alloc, word)?))
     } else {

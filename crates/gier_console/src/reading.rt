@@ -1,4 +1,6 @@
 // The bytes of a tape, from a file and standard input, and the program text that was among them.
+ghost use Rattle.std.specs.Io.{ReadsAtMost};
+
 use std::alloc::Global;
 use std::io;
 use std::io::Read;
@@ -72,7 +74,9 @@ impl<F: Read + Drop, I: Read + Drop> TapeReader<F, I> {
     }
 
     // The next bytes, 0 at the end.
-    fn read_some(&mut self, buf: &mut [u8]) -> io::Result<usize> {
+    fn read_some(&mut self, buf: &mut [u8]) -> io::Result<usize>
+        ensures { ReadsAtMost result buf.new }
+    {
         let Some(file) = &mut self.file else {
             return self.input.read(buf);
         };

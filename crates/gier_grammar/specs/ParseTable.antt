@@ -1,4 +1,4 @@
--- The table: what each item does with each kind of symbol.
+-- The LL(1) table: what each grammar symbol does with each kind of symbol.
 use Rattle.std.specs.Prelude.{◌==◌, ℕ, nat_lt, if◌then◌else◌}
 use Rattle.gier_symbol.specs.declared.tag.Tag.{Tag}
 use Rattle.gier_symbol.specs.declared.tag.Tag.TheVariants.{And as TAnd, Array as TArray, Becomes as TBecomes, Begin as TBegin}
@@ -129,11 +129,11 @@ use Rattle.gier_grammar.specs.declared.production.Production.TheVariants.{While 
 use Rattle.gier_grammar.specs.declared.parse_table.ParseAction.{ParseAction}
 use Rattle.gier_grammar.specs.declared.parse_table.ParseAction.TheVariants.{Error, Epsilon, Expand}
 
--- the item takes one kind of symbol, and refuses all others
+-- one kind of symbol is taken, and all others are errors
 abbrev pub only : Tag → Tag → Production → ParseAction
 only kind wanted production = if number_of kind == number_of wanted then Expand production else Error
 
--- the item takes one kind of symbol, and is nothing before all others
+-- one kind of symbol is taken, and before all others this is nothing
 abbrev pub may : Tag → Tag → Production → ParseAction
 may kind wanted production = if number_of kind == number_of wanted then Expand production else Epsilon
 
@@ -355,7 +355,7 @@ may_sum TPlus = Expand RSum
 may_sum TMinus = Expand RSum
 may_sum _ = Epsilon
 
--- one row for each item; all others are marks, which want no symbol
+-- one row for each grammar symbol; all others are marks, which want no symbol
 abbrev pub parse_action : GrammarSymbol → Tag → ℕ → ParseAction
 parse_action GProgram kind left = program kind
 parse_action GProgramColon kind left = only kind TColon RProgramColon

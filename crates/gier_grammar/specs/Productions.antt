@@ -17,31 +17,17 @@ use Rattle.gier_tree.specs.declared.construct.Construct.TheVariants.{ProcedureDe
 use Rattle.gier_tree.specs.declared.construct.Construct.TheVariants.{SwitchDeclaration as CSwitchDeclaration}
 use Rattle.gier_tree.specs.declared.construct.Construct.TheVariants.{TypeDeclaration as CTypeDeclaration}
 use Rattle.gier_grammar.specs.declared.grammar_symbol.GrammarSymbol.{GrammarSymbol}
-use Rattle.gier_grammar.specs.declared.grammar_symbol.GrammarSymbol.TheVariants.{OpenArraySegment as GOpenArraySegment}
-use Rattle.gier_grammar.specs.declared.grammar_symbol.GrammarSymbol.TheVariants.{OpenProcedureBody as GOpenProcedureBody}
-use Rattle.gier_grammar.specs.declared.grammar_symbol.GrammarSymbol.TheVariants.{OpenControlledStatement as GOpenControlledStatement}
-use Rattle.gier_grammar.specs.declared.grammar_symbol.GrammarSymbol.TheVariants.{OpenActual as GOpenActual}
-use Rattle.gier_grammar.specs.declared.grammar_symbol.GrammarSymbol.TheVariants.{OpenSubscript as GOpenSubscript}
-use Rattle.gier_grammar.specs.declared.grammar_symbol.GrammarSymbol.TheVariants.{OpenBound as GOpenBound}
-use Rattle.gier_grammar.specs.declared.grammar_symbol.GrammarSymbol.TheVariants.{OpenSwitchElement as GOpenSwitchElement}
-use Rattle.gier_grammar.specs.declared.grammar_symbol.GrammarSymbol.TheVariants.{OpenForElement as GOpenForElement}
-use Rattle.gier_grammar.specs.declared.grammar_symbol.GrammarSymbol.TheVariants.{ShutBlock as GShutBlock}
-use Rattle.gier_grammar.specs.declared.grammar_symbol.GrammarSymbol.TheVariants.{ShutCompound as GShutCompound}
-use Rattle.gier_grammar.specs.declared.grammar_symbol.GrammarSymbol.TheVariants.{ShutTypeDeclaration as GShutTypeDeclaration}
-use Rattle.gier_grammar.specs.declared.grammar_symbol.GrammarSymbol.TheVariants.{ShutArraySegment as GShutArraySegment}
-use Rattle.gier_grammar.specs.declared.grammar_symbol.GrammarSymbol.TheVariants.{ShutSwitchDeclaration as GShutSwitchDeclaration}
-use Rattle.gier_grammar.specs.declared.grammar_symbol.GrammarSymbol.TheVariants.{ShutProcedureDeclaration as GShutProcedureDeclaration}
-use Rattle.gier_grammar.specs.declared.grammar_symbol.GrammarSymbol.TheVariants.{ShutProcedureBody as GShutProcedureBody}
-use Rattle.gier_grammar.specs.declared.grammar_symbol.GrammarSymbol.TheVariants.{ShutForStatement as GShutForStatement}
-use Rattle.gier_grammar.specs.declared.grammar_symbol.GrammarSymbol.TheVariants.{ShutControlledStatement as GShutControlledStatement}
-use Rattle.gier_grammar.specs.declared.grammar_symbol.GrammarSymbol.TheVariants.{ShutConditionalStatement as GShutConditionalStatement}
-use Rattle.gier_grammar.specs.declared.grammar_symbol.GrammarSymbol.TheVariants.{ShutActual as GShutActual}
-use Rattle.gier_grammar.specs.declared.grammar_symbol.GrammarSymbol.TheVariants.{ShutSubscript as GShutSubscript}
-use Rattle.gier_grammar.specs.declared.grammar_symbol.GrammarSymbol.TheVariants.{ShutBound as GShutBound}
-use Rattle.gier_grammar.specs.declared.grammar_symbol.GrammarSymbol.TheVariants.{ShutSwitchElement as GShutSwitchElement}
-use Rattle.gier_grammar.specs.declared.grammar_symbol.GrammarSymbol.TheVariants.{ShutForElement as GShutForElement}
-use Rattle.gier_grammar.specs.declared.grammar_symbol.GrammarSymbol.TheVariants.{ShutGoTo as GShutGoTo}
-use Rattle.gier_grammar.specs.declared.grammar_symbol.GrammarSymbol.TheVariants.{ShutConditionalExpression as GShutConditionalExpression}
+use Rattle.gier_grammar.specs.declared.grammar_symbol.GrammarSymbol.TheVariants.{OpenArraySegment, OpenProcedureBody}
+use Rattle.gier_grammar.specs.declared.grammar_symbol.GrammarSymbol.TheVariants.{OpenControlledStatement, OpenActual, OpenSubscript}
+use Rattle.gier_grammar.specs.declared.grammar_symbol.GrammarSymbol.TheVariants.{OpenBound, OpenSwitchElement, OpenForElement}
+use Rattle.gier_grammar.specs.declared.grammar_symbol.GrammarSymbol.TheVariants.{ShutBlock, ShutCompound, ShutTypeDeclaration}
+use Rattle.gier_grammar.specs.declared.grammar_symbol.GrammarSymbol.TheVariants.{ShutArraySegment, ShutSwitchDeclaration}
+use Rattle.gier_grammar.specs.declared.grammar_symbol.GrammarSymbol.TheVariants.{ShutProcedureDeclaration, ShutProcedureBody}
+use Rattle.gier_grammar.specs.declared.grammar_symbol.GrammarSymbol.TheVariants.{ShutForStatement, ShutControlledStatement}
+use Rattle.gier_grammar.specs.declared.grammar_symbol.GrammarSymbol.TheVariants.{ShutConditionalStatement, ShutActual}
+use Rattle.gier_grammar.specs.declared.grammar_symbol.GrammarSymbol.TheVariants.{ShutSubscript, ShutBound, ShutSwitchElement}
+use Rattle.gier_grammar.specs.declared.grammar_symbol.GrammarSymbol.TheVariants.{ShutForElement, ShutGoTo}
+use Rattle.gier_grammar.specs.declared.grammar_symbol.GrammarSymbol.TheVariants.{ShutConditionalExpression}
 use Rattle.gier_grammar.specs.declared.grammar_symbol.GrammarSymbol.TheVariants.{AfterOwnType as GAfterOwnType, Program as GProgram}
 use Rattle.gier_grammar.specs.declared.grammar_symbol.GrammarSymbol.TheVariants.{ProgramColon as GProgramColon}
 use Rattle.gier_grammar.specs.declared.grammar_symbol.GrammarSymbol.TheVariants.{AfterBegin as GAfterBegin, BlockTail as GBlockTail}
@@ -227,47 +213,47 @@ right_side_of REnd = []
 right_side_of RBegin = GAfterBegin ∷ []
 right_side_of RFirstOwn = GOwnType ∷ GFirstDeclared ∷ []
 right_side_of RFirstType = GAfterType ∷ GFirstDeclared ∷ []
-right_side_of RFirstSwitch = GName ∷ GSwitchBecomes ∷ GShutSwitchDeclaration ∷ GFirstDeclared ∷ []
-right_side_of RFirstProcedure = GName ∷ GMayFormals ∷ GHeading ∷ GShutProcedureDeclaration ∷ GFirstDeclared ∷ []
+right_side_of RFirstSwitch = GName ∷ GSwitchBecomes ∷ ShutSwitchDeclaration ∷ GFirstDeclared ∷ []
+right_side_of RFirstProcedure = GName ∷ GMayFormals ∷ GHeading ∷ ShutProcedureDeclaration ∷ GFirstDeclared ∷ []
 right_side_of RFirstEnded = GMoreDeclarations ∷ GStatement ∷ GBlockTail ∷ []
 right_side_of RNextOwn = GOwnType ∷ GDeclared ∷ []
 right_side_of RNextType = GAfterType ∷ GDeclared ∷ []
-right_side_of RNextSwitch = GName ∷ GSwitchBecomes ∷ GShutSwitchDeclaration ∷ GDeclared ∷ []
-right_side_of RNextProcedure = GName ∷ GMayFormals ∷ GHeading ∷ GShutProcedureDeclaration ∷ GDeclared ∷ []
+right_side_of RNextSwitch = GName ∷ GSwitchBecomes ∷ ShutSwitchDeclaration ∷ GDeclared ∷ []
+right_side_of RNextProcedure = GName ∷ GMayFormals ∷ GHeading ∷ ShutProcedureDeclaration ∷ GDeclared ∷ []
 right_side_of RNextEnded = GMoreDeclarations ∷ []
 right_side_of RBlockNext = GStatement ∷ GBlockTail ∷ []
-right_side_of RBlockEnd = GShutBlock ∷ []
+right_side_of RBlockEnd = ShutBlock ∷ []
 right_side_of RCompoundName = GAfterName ∷ GCompoundTail ∷ []
 right_side_of RCompoundBegin = GAfterBegin ∷ GCompoundTail ∷ []
-right_side_of RCompoundIf = GExpression ∷ GThen ∷ GBranch ∷ GShutConditionalStatement ∷ GCompoundTail ∷ []
+right_side_of RCompoundIf = GExpression ∷ GThen ∷ GBranch ∷ ShutConditionalStatement ∷ GCompoundTail ∷ []
 right_side_of RCompoundFor = GForVariable ∷ GForBecomes ∷ GCompoundTail ∷ []
-right_side_of RCompoundGoTo = GExpression ∷ GShutGoTo ∷ GCompoundTail ∷ []
+right_side_of RCompoundGoTo = GExpression ∷ ShutGoTo ∷ GCompoundTail ∷ []
 right_side_of RCompoundNothing = GStatement ∷ GCompoundTail ∷ []
-right_side_of RCompoundEmpty = GShutCompound ∷ []
+right_side_of RCompoundEmpty = ShutCompound ∷ []
 right_side_of RCompoundNext = GStatement ∷ GCompoundTail ∷ []
-right_side_of RCompoundEnd = GShutCompound ∷ []
+right_side_of RCompoundEnd = ShutCompound ∷ []
 right_side_of ROwnType = GAfterOwnType ∷ []
-right_side_of ROwnNames = GMoreOwnNames ∷ GShutTypeDeclaration ∷ []
+right_side_of ROwnNames = GMoreOwnNames ∷ ShutTypeDeclaration ∷ []
 right_side_of ROwnName = []
 right_side_of ROwnComma = GOwnName ∷ GMoreOwnNames ∷ []
-right_side_of ROwnArray = GOpenArraySegment ∷ GOwnName ∷ GMoreOwnNames ∷ GFixedBounds ∷ GShutArraySegment ∷ GMoreFixedSegments ∷ []
+right_side_of ROwnArray = OpenArraySegment ∷ GOwnName ∷ GMoreOwnNames ∷ GFixedBounds ∷ ShutArraySegment ∷ GMoreFixedSegments ∷ []
 right_side_of RFixedSegment =
-    GOpenArraySegment ∷ GOwnName ∷ GMoreOwnNames ∷ GFixedBounds ∷ GShutArraySegment ∷ GMoreFixedSegments ∷ []
-right_side_of RFirstPair = GOpenBound ∷ GMaySign ∷ GNumber ∷ GShutBound ∷ GFixedColon ∷ GMorePairs ∷ []
-right_side_of RNextPair = GOpenBound ∷ GMaySign ∷ GNumber ∷ GShutBound ∷ GFixedColon ∷ GMorePairs ∷ []
-right_side_of RFixedUpper = GOpenBound ∷ GMaySign ∷ GNumber ∷ GShutBound ∷ []
-right_side_of RTypeNames = GMoreNames ∷ GShutTypeDeclaration ∷ []
+    OpenArraySegment ∷ GOwnName ∷ GMoreOwnNames ∷ GFixedBounds ∷ ShutArraySegment ∷ GMoreFixedSegments ∷ []
+right_side_of RFirstPair = OpenBound ∷ GMaySign ∷ GNumber ∷ ShutBound ∷ GFixedColon ∷ GMorePairs ∷ []
+right_side_of RNextPair = OpenBound ∷ GMaySign ∷ GNumber ∷ ShutBound ∷ GFixedColon ∷ GMorePairs ∷ []
+right_side_of RFixedUpper = OpenBound ∷ GMaySign ∷ GNumber ∷ ShutBound ∷ []
+right_side_of RTypeNames = GMoreNames ∷ ShutTypeDeclaration ∷ []
 right_side_of RName = []
 right_side_of RComma = GName ∷ GMoreNames ∷ []
-right_side_of RArray = GOpenArraySegment ∷ GName ∷ GMoreNames ∷ GBounds ∷ GShutArraySegment ∷ GMoreSegments ∷ []
-right_side_of RSegment = GOpenArraySegment ∷ GName ∷ GMoreNames ∷ GBounds ∷ GShutArraySegment ∷ GMoreSegments ∷ []
-right_side_of RBound = GOpenBound ∷ GExpression ∷ GShutBound ∷ GBoundColon ∷ GBoundTail ∷ []
-right_side_of RUpperBound = GOpenBound ∷ GExpression ∷ GShutBound ∷ []
-right_side_of RSwitchElement = GOpenSwitchElement ∷ GExpression ∷ GShutSwitchElement ∷ GMoreSwitchElements ∷ []
-right_side_of RTypedProcedure = GName ∷ GMayFormals ∷ GHeading ∷ GShutProcedureDeclaration ∷ []
+right_side_of RArray = OpenArraySegment ∷ GName ∷ GMoreNames ∷ GBounds ∷ ShutArraySegment ∷ GMoreSegments ∷ []
+right_side_of RSegment = OpenArraySegment ∷ GName ∷ GMoreNames ∷ GBounds ∷ ShutArraySegment ∷ GMoreSegments ∷ []
+right_side_of RBound = OpenBound ∷ GExpression ∷ ShutBound ∷ GBoundColon ∷ GBoundTail ∷ []
+right_side_of RUpperBound = OpenBound ∷ GExpression ∷ ShutBound ∷ []
+right_side_of RSwitchElement = OpenSwitchElement ∷ GExpression ∷ ShutSwitchElement ∷ GMoreSwitchElements ∷ []
+right_side_of RTypedProcedure = GName ∷ GMayFormals ∷ GHeading ∷ ShutProcedureDeclaration ∷ []
 right_side_of RFormals = GFormal ∷ GFormalTail ∷ []
 right_side_of RFormal = []
-right_side_of RHeaded = GMayValues ∷ GMoreSpecifications ∷ GOpenProcedureBody ∷ GStatement ∷ GShutProcedureBody ∷ []
+right_side_of RHeaded = GMayValues ∷ GMoreSpecifications ∷ OpenProcedureBody ∷ GStatement ∷ ShutProcedureBody ∷ []
 right_side_of RValues = GValueName ∷ GMoreValueNames ∷ GSemicolon ∷ []
 right_side_of RValueComma = GValueName ∷ GMoreValueNames ∷ []
 right_side_of RValueName = []
@@ -277,30 +263,30 @@ right_side_of RSpecifiedComma = GSpecifiedName ∷ GMoreSpecifiedNames ∷ []
 right_side_of RSpecifiedName = []
 right_side_of RStatementName = GAfterName ∷ []
 right_side_of RLabel = GStatement ∷ []
-right_side_of RIf = GExpression ∷ GThen ∷ GBranch ∷ GShutConditionalStatement ∷ []
+right_side_of RIf = GExpression ∷ GThen ∷ GBranch ∷ ShutConditionalStatement ∷ []
 right_side_of RFor = GForVariable ∷ GForBecomes ∷ []
-right_side_of RGoTo = GExpression ∷ GShutGoTo ∷ []
+right_side_of RGoTo = GExpression ∷ ShutGoTo ∷ []
 right_side_of RAssignment = GRight ∷ []
-right_side_of RCall = GOpenActual ∷ GActual ∷ GShutActual ∷ GActualTail ∷ []
-right_side_of RElement = GOpenSubscript ∷ GExpression ∷ GShutSubscript ∷ GSubscriptTail ∷ GBecomes ∷ []
+right_side_of RCall = OpenActual ∷ GActual ∷ ShutActual ∷ GActualTail ∷ []
+right_side_of RElement = OpenSubscript ∷ GExpression ∷ ShutSubscript ∷ GSubscriptTail ∷ GBecomes ∷ []
 right_side_of RBranchName = GAfterBranchName ∷ []
 right_side_of RBranchLabel = GBranch ∷ []
 right_side_of RBranchBegin = GAfterBegin ∷ GMayElse ∷ []
-right_side_of RBranchGoTo = GExpression ∷ GShutGoTo ∷ GMayElse ∷ []
+right_side_of RBranchGoTo = GExpression ∷ ShutGoTo ∷ GMayElse ∷ []
 right_side_of RBranchAssignment = GRight ∷ GMayElse ∷ []
-right_side_of RBranchCall = GOpenActual ∷ GActual ∷ GShutActual ∷ GActualTail ∷ GMayElse ∷ []
-right_side_of RBranchElement = GOpenSubscript ∷ GExpression ∷ GShutSubscript ∷ GSubscriptTail ∷ GBecomes ∷ GMayElse ∷ []
+right_side_of RBranchCall = OpenActual ∷ GActual ∷ ShutActual ∷ GActualTail ∷ GMayElse ∷ []
+right_side_of RBranchElement = OpenSubscript ∷ GExpression ∷ ShutSubscript ∷ GSubscriptTail ∷ GBecomes ∷ GMayElse ∷ []
 right_side_of RBranchElse = GStatement ∷ []
 right_side_of RElse = GStatement ∷ []
-right_side_of RForElement = GOpenForElement ∷ GExpression ∷ GMayStep ∷ GShutForElement ∷ GForTail ∷ []
-right_side_of RDo = GOpenControlledStatement ∷ GStatement ∷ GShutControlledStatement ∷ GShutForStatement ∷ []
+right_side_of RForElement = OpenForElement ∷ GExpression ∷ GMayStep ∷ ShutForElement ∷ GForTail ∷ []
+right_side_of RDo = OpenControlledStatement ∷ GStatement ∷ ShutControlledStatement ∷ ShutForStatement ∷ []
 right_side_of RStep = GExpression ∷ GUntil ∷ GExpression ∷ []
 right_side_of RWhile = GExpression ∷ []
 right_side_of RRight = GRight ∷ []
 right_side_of RRightName = GAfterRightName ∷ []
-right_side_of RRightElement = GOpenSubscript ∷ GExpression ∷ GShutSubscript ∷ GSubscriptTail ∷ GAfterRightElement ∷ []
+right_side_of RRightElement = OpenSubscript ∷ GExpression ∷ ShutSubscript ∷ GSubscriptTail ∷ GAfterRightElement ∷ []
 right_side_of RRightCall =
-    GOpenActual ∷ GActual ∷ GShutActual ∷ GActualTail ∷ GMayPower ∷ GMayTimes ∷ GMaySum ∷ GMayRelation ∷ GMayAnd ∷ GMayOr ∷
+    OpenActual ∷ GActual ∷ ShutActual ∷ GActualTail ∷ GMayPower ∷ GMayTimes ∷ GMaySum ∷ GMayRelation ∷ GMayAnd ∷ GMayOr ∷
     GMayImplication ∷ GMayEquivalence ∷ []
 right_side_of RRightArithmetic =
     GPrimary ∷ GMayPower ∷ GMayTimes ∷ GMaySum ∷ GMayRelation ∷ GMayAnd ∷ GMayOr ∷ GMayImplication ∷ GMayEquivalence ∷ []
@@ -309,7 +295,7 @@ right_side_of RRightRelation =
 right_side_of RRightLogic =
     GMayNot ∷ GMaySign ∷ GPrimary ∷ GMayPower ∷ GMayTimes ∷ GMaySum ∷ GMayRelation ∷ GMayAnd ∷ GMayOr ∷ GMayImplication ∷
     GMayEquivalence ∷ []
-right_side_of RCondition = GExpression ∷ GThen ∷ GSimple ∷ GElse ∷ GExpression ∷ GShutConditionalExpression ∷ []
+right_side_of RCondition = GExpression ∷ GThen ∷ GSimple ∷ GElse ∷ GExpression ∷ ShutConditionalExpression ∷ []
 right_side_of RFirstNot =
     GMaySign ∷ GPrimary ∷ GMayPower ∷ GMayTimes ∷ GMaySum ∷ GMayRelation ∷ GMayAnd ∷ GMayOr ∷ GMayImplication ∷ GMayEquivalence ∷ []
 right_side_of RFirstPlus =
@@ -338,17 +324,17 @@ right_side_of RImplication =
 right_side_of REquivalence =
     GMayNot ∷ GMaySign ∷ GPrimary ∷ GMayPower ∷ GMayTimes ∷ GMaySum ∷ GMayRelation ∷ GMayAnd ∷ GMayOr ∷ GMayImplication ∷
     GMayEquivalence ∷ []
-right_side_of RSubscript = GOpenSubscript ∷ GExpression ∷ GShutSubscript ∷ GSubscriptTail ∷ []
-right_side_of RActual = GOpenActual ∷ GActual ∷ GShutActual ∷ GActualTail ∷ []
+right_side_of RSubscript = OpenSubscript ∷ GExpression ∷ ShutSubscript ∷ GSubscriptTail ∷ []
+right_side_of RActual = OpenActual ∷ GActual ∷ ShutActual ∷ GActualTail ∷ []
 right_side_of RStringMore = GStringRest ∷ []
 
--- how many pairs of constants may follow what a rule wants, where so many could follow before
+-- how many pairs of constants may follow what a production wants, where so many could follow before
 abbrev pub left_after : Production → ℕ → ℕ
 left_after RFirstPair left = 29
 left_after RNextPair left = left - 1
 left_after _ left = 0
 
--- what it costs beyond the weight of a symbol: the first own variable is written with the marks of its declaration
+-- what it costs beyond what a symbol pays for: the first own variable is written with the marks of its declaration
 abbrev pub needs : Production → ℕ
 needs ROwnNames = 1
 needs _ = 0

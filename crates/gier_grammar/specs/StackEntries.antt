@@ -4,12 +4,12 @@ use Rattle.gier_grammar.specs.declared.grammar_symbol.GrammarSymbol.{GrammarSymb
 use Rattle.gier_grammar.specs.declared.grammar_symbol.GrammarSymbol.TheVariants.{MorePairs as GMorePairs}
 use Rattle.gier_grammar.specs.declared.stack_entry.StackEntry.{StackEntry}
 
--- how many pairs of constants may follow is told beside one item only
+-- how many pairs of constants may follow is told beside one grammar symbol only
 abbrev pub beside : GrammarSymbol → (left : ℕ) → ℕ
 beside GMorePairs left = left
 beside _ left = 0
 
--- what a rule wants, above what was wanted
+-- the right side of a production, above what was wanted
 abbrev pub entry : GrammarSymbol → (left : ℕ) → StackEntry
 entry item left = record { symbol = item; left = beside item left }
 

@@ -1,11 +1,11 @@
-// What may be wanted next of a program. The stack of the pass holds these, and each is a word there.
+// The grammar symbols: what may be wanted next of a program. The stack of the pass holds these.
 ghost use Rattle.std.specs.Prelude.{◌≡◌, ◌≢◌, IfSome, IfNone};
 
 use gier_tree::Construct;
 
 /// What is wanted next.
 ///
-/// An item whose name begins with `May` or `More` may be nothing. Those that open and shut constructs want no symbol: they
+/// A symbol whose name begins with `May` or `More` may be nothing. Those that open and shut constructs want no symbol: they
 /// write a mark. The number of a variant is its place here, from 0.
 #[derive(Debug, Clone, Copy, PartialEq, Eq)]
 pub enum GrammarSymbol {
@@ -36,7 +36,7 @@ pub enum GrammarSymbol {
     ShutForElement,
     ShutGoTo,
     ShutConditionalExpression,
-    /// What follows `_own` and a type; both are held.
+    /// What follows `_own` and a type; both are in the lookahead.
     AfterOwnType,
     /// Labels, and a block or compound.
     Program,
@@ -44,7 +44,7 @@ pub enum GrammarSymbol {
     ProgramColon,
     /// The end of the text.
     TextEnd,
-    /// A declaration or statement behind `_begin`, which is held.
+    /// A declaration or statement behind `_begin`, which is in the lookahead.
     AfterBegin,
     /// `;` and a statement, or `_end`, of a block.
     BlockTail,
@@ -55,7 +55,7 @@ pub enum GrammarSymbol {
     /// The `;` behind a further declaration, and more declarations.
     Declared,
     MoreDeclarations,
-    /// The type behind `_own`, which is held.
+    /// The type behind `_own`, which is in the lookahead.
     OwnType,
     /// An identifier that declares an own quantity.
     OwnName,
@@ -67,7 +67,7 @@ pub enum GrammarSymbol {
     /// `]`, or `,` and one pair more of constants. How many more are allowed stands beside it.
     MorePairs,
     MoreFixedSegments,
-    /// What follows a type, which is held.
+    /// What follows a type, which is in the lookahead.
     AfterType,
     /// An identifier that is declared.
     Name,
@@ -97,13 +97,13 @@ pub enum GrammarSymbol {
     MaySpecifier,
     SpecifiedName,
     MoreSpecifiedNames,
-    /// A statement. Its labels are held.
+    /// A statement. Its labels are in the lookahead.
     Statement,
-    /// What follows an identifier that begins a statement; it is held.
+    /// What follows an identifier that begins a statement; it is in the lookahead.
     AfterName,
     /// A statement behind `_then`.
     Branch,
-    /// What follows an identifier that begins a statement behind `_then`; it is held.
+    /// What follows an identifier that begins a statement behind `_then`; it is in the lookahead.
     AfterBranchName,
     MayElse,
     ForVariable,
@@ -152,7 +152,7 @@ pub enum GrammarSymbol {
     RightParenthesis,
 }
 
-/// What an item that wants no symbol writes.
+/// What a grammar symbol that wants no symbol of the text writes.
 #[derive(Debug, Clone, Copy, PartialEq, Eq)]
 pub enum Mark {
     Open(Construct),
@@ -163,14 +163,14 @@ impl GrammarSymbol {
     ghost use Rattle.gier_grammar.specs.GrammarSymbols.{number_of, mark_of, credit_of};
     ghost use Rattle.gier_grammar.specs.declared.grammar_symbol.GrammarSymbol.{GrammarSymbol};
 
-    /// The number of the item.
+    /// The number of the grammar symbol.
     pub fn number(self) -> u64
         ensures { result ≡ number_of self }
     {
         self as u64
     }
 
-    /// The item with this number, if there is one.
+    /// The grammar symbol with this number, if there is one.
     pub fn of(number: u64) -> Option<GrammarSymbol>
         ensures some { IfSome result (λ item. number_of item ≡ number) }
         ensures none { IfNone result ((item : GrammarSymbol) → number_of item ≢ number) }
@@ -281,7 +281,7 @@ impl GrammarSymbol {
         }
     }
 
-    /// The mark that the item writes, if it wants no symbol.
+    /// The mark that the grammar symbol writes, if it wants no symbol of the text.
     pub fn mark(self) -> Option<Mark>
         ensures value { result ≡ mark_of self }
         ensures paid { IfSome result (λ mark. credit_of self ≡ 1) }

@@ -1,4 +1,4 @@
-// The table: what each item does with each symbol.
+// The LL(1) table: what each grammar symbol does with each symbol of the text.
 ghost use Rattle.std.specs.Prelude.{◌≡◌, ◌==◌};
 ghost use Rattle.gier_symbol.specs.Tags.{number_of};
 ghost use Rattle.gier_grammar.specs.Productions.{needs};
@@ -15,20 +15,20 @@ use crate::grammar_symbol::GrammarSymbol;
 use crate::production::Production;
 use gier_symbol::Tag;
 
-/// What an item does with a symbol.
+/// What a grammar symbol on top of the stack does with a symbol of the text.
 #[derive(Debug, Clone, Copy, PartialEq, Eq)]
 pub enum ParseAction {
     /// No program goes on so.
     Error,
-    /// The item is nothing here, and the next one meets the symbol.
+    /// It is nothing here, and the next one meets the symbol.
     Epsilon,
-    /// The item takes the symbol.
+    /// It takes the symbol, and this production says what is done then.
     Expand(Production),
 }
 
-/// What the item does with a symbol of this kind. `left` tells how many pairs of constants may still follow.
+/// What is done with a symbol of this kind. `left` tells how many pairs of constants may still follow.
 ///
-/// This is the whole table: one row for each item. All other items are marks, which want no symbol.
+/// This is the whole table: one row for each grammar symbol. All others are marks, which want no symbol.
 pub fn parse_action(item: GrammarSymbol, kind: Tag, left: u64) -> ParseAction
     ensures value { result ≡ parse_action item kind left }
     ensures paid { IsPaidBy item result }
@@ -118,7 +118,7 @@ fn is(kind: Tag, wanted: Tag) -> bool
     kind.number() == wanted.number()
 }
 
-// The item takes one kind of symbol, and refuses all others.
+// One kind of symbol is taken, and all others are errors.
 fn only(kind: Tag, wanted: Tag, production: Production) -> ParseAction
     requires { needs production ≡ 0 }
     ensures value { result ≡ only kind wanted production }
@@ -130,7 +130,7 @@ fn only(kind: Tag, wanted: Tag, production: Production) -> ParseAction
     ParseAction::Error
 }
 
-// The item takes one kind of symbol, and is nothing before all others.
+// One kind of symbol is taken, and before all others this is nothing.
 fn may(kind: Tag, wanted: Tag, production: Production) -> ParseAction
     requires { needs production ≡ 0 }
     ensures value { result ≡ may kind wanted production }
@@ -442,7 +442,7 @@ fn after_right_element(kind: Tag) -> ParseAction
     }
 }
 
-// A relation; all other symbols are passed.
+// A relation; before all other symbols this is nothing.
 fn relation(kind: Tag, production: Production) -> ParseAction
     requires { needs production ≡ 0 }
     ensures value { result ≡ relation kind production }

@@ -1,4 +1,4 @@
-// The rules: what is written when an item takes a symbol, and what is wanted then.
+// The productions: what is done with the symbol that a grammar symbol takes, and what is wanted then.
 ghost use Rattle.std.specs.Prelude.{◌≡◌};
 
 use crate::grammar_symbol::GrammarSymbol;
@@ -36,12 +36,12 @@ impl Role {
     }
 }
 
-/// What a rule does with the symbol.
+/// What a production does with the symbol.
 #[derive(Debug, Clone, Copy, PartialEq, Eq)]
 pub enum Action {
-    /// Opens a construct before all that is held.
+    /// Opens a construct before the lookahead.
     Open(Construct),
-    /// Writes all that is held.
+    /// Writes the lookahead.
     WriteLookahead,
     /// Writes the symbol.
     Write,
@@ -51,15 +51,15 @@ pub enum Action {
     WriteOwn,
     /// Writes the end with the number of own quantities.
     WriteEnd,
-    /// Holds the symbol.
+    /// Puts the symbol into the lookahead.
     Lookahead,
-    /// Holds an identifier that may be a label.
+    /// Puts an identifier there that may be a label.
     LookaheadName,
-    /// Holds this identifier as a label, with the symbol as its colon.
+    /// Makes this identifier a label, with the symbol as its colon.
     LookaheadLabel,
 }
 
-/// What an item takes a symbol for.
+/// What a grammar symbol takes a symbol for.
 #[derive(Debug, Clone, Copy, PartialEq, Eq)]
 pub enum Production {
     /// The symbol alone.
@@ -405,7 +405,7 @@ impl Production {
         }
     }
 
-    /// What is wanted then, the next item first.
+    /// What is wanted then, the next one first.
     pub fn right_side(self) -> &'static [GrammarSymbol]
         ensures { result.now ≡ right_side_of self }
     {

@@ -9,7 +9,7 @@ use Rattle.gier_symbol.specs.declared.tag.Tag.TheVariants.{Letter, Digit, Identi
 use Rattle.gier_symbol.specs.Tags.{number_of}
 use Rattle.gier_symbol.specs.Texts.{is_in_text2, stands_in}
 use Rattle.gier_tree.specs.Signs.{sign_tag, sign_by, sign_of}
-use Rattle.gier_pass3.proofs.ItemWords.{same_number}
+use Rattle.gier_pass3.proofs.EntryWords.{same_number}
 use Rattle.gier_pass3.specs.Found.{has_value, IsBare}
 
 sign_kind : (kind : Tag) (value : ℕ) (none : Bool) → (value == 0) ≡ none → is_in_text2 (number_of kind) ≡ true → (has_value (number_of kind) || none) ≡ true → sign_tag (sign_by (number_of kind == number_of Identifier) (number_of kind == number_of Number) (number_of kind == number_of StringByte) (number_of kind) value) ≡ kind

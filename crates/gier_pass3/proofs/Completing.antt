@@ -10,7 +10,7 @@ use Rattle.gier_tree.specs.Wanted.{Item, Want, MayNot, WantType, WantFurther, Wa
 use Rattle.gier_tree.specs.Taking.{Act, Refuse, Pass, Push, act, want_by, same_sign}
 use Rattle.gier_tree.specs.Structure.{next_of, step, step_sign, program_spelled}
 use Rattle.gier_pass3.proofs.Bare.{both}
-use Rattle.gier_pass3.proofs.ItemWords.{some_same}
+use Rattle.gier_pass3.proofs.EntryWords.{some_same}
 use Rattle.gier_pass3.proofs.Runs.{run, then_run, run_append, program_of}
 use Rattle.gier_pass3.proofs.Filling.{is_plain, fill, is_deep, is_good, IsSafe, filled, safe_fill}
 

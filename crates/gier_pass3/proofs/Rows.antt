@@ -19,7 +19,7 @@ use Rattle.gier_grammar.specs.Productions.{right_side_of, left_after}
 use Rattle.gier_grammar.specs.ParseTable.{parse_action}
 use Rattle.gier_pass3.specs.Grammar.{wanted_above, all_above, IsAbove, AreAbove}
 
--- what the grammar wants where a rule took a symbol: it has one item for a segment or a constant, and the pass has its parts
+-- what the grammar wants where a production took a symbol: it has one item for a segment or a constant, and the pass has its parts
 abbrev pub grammar_wants : Production → (left : ℕ) → (below : List GrammarItem) → List GrammarItem
 grammar_wants Array left below = WantSegment ∷ MaySegments ∷ below
 grammar_wants Segment left below = WantSegment ∷ MaySegments ∷ below
@@ -111,7 +111,7 @@ same_wants NextPair left below = same_by_step _ _ (λ s l. constant_parts s l (W
 same_wants FixedUpper left below = same_by_step _ _ (λ s l. constant_parts s l below)
 same_wants _ left below = λ w. refl
 
--- what a rule did
+-- what a production did
 pub row_taken : (production : Production) (s : Sign) (l left : ℕ) (whole below : List GrammarItem) → IsRow (Expand production) s l left whole below → step_sign s l whole ≡ Some (grammar_wants production left below)
 row_taken ProgramLabel s l left whole below h = h.0
 row_taken _ s l left whole below h = h

@@ -11,7 +11,7 @@ use Rattle.gier_tree.specs.Wanted.{Item, WantProgram, Trees}
 use Rattle.gier_tree.specs.Taking.{Act, Refuse, Pass, Push, act}
 use Rattle.gier_tree.specs.Structure.{next_of, step, step_sign, fault_on, first_refused, with_tree, gather, build_act, build_at, build_end, build, first_tree, program_spelled}
 use Rattle.gier_tree.proofs.ProgramsRead.{program_built}
-use Rattle.gier_pass3.proofs.ItemWords.{some_same}
+use Rattle.gier_pass3.proofs.EntryWords.{some_same}
 
 abbrev pub then_run : Option (List Item) → (List Item → Option (List Item)) → Option (List Item)
 then_run None go_on = None

@@ -14,7 +14,7 @@ use Rattle.gier_tree.specs.Wanted.{Item, Want, MayNot, WantFurther, WantProgram,
 use Rattle.gier_tree.specs.Taking.{Act, Refuse, Pass, Push, act, want_by, same_sign}
 use Rattle.gier_tree.specs.Structure.{split, with_tree, gather, build_act, build_at, build, first_tree, program_spelled}
 use Rattle.gier_pass3.proofs.Bare.{both}
-use Rattle.gier_pass3.proofs.ItemWords.{some_same, find_holds, same_number}
+use Rattle.gier_pass3.proofs.EntryWords.{some_same, find_holds, same_number}
 use Rattle.gier_pass3.proofs.Spelling.{spell_item, spell_all}
 use Rattle.gier_pass3.proofs.SpelledRows.{SpelledBy, value_of, symbol_of, is_strange, is_wanted, row_spelled}
 

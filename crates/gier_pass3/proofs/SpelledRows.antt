@@ -11,7 +11,7 @@ use Rattle.gier_tree.specs.Spell.{ident, adding_tag, multiplying_tag, comparing_
 use Rattle.gier_tree.specs.Signs.{Sign, SAdding, SAnd, SArray, SBecomes, SBegin, SByte, SColon, SComma, SComparing, SDo, SElse, SEnd, SEquiv, SFor, SGoto, SIf, SImpl, SLabel, SLeftBracket, SLeftParenthesis, SLogical, SMultiplying, SName, SNot, SNumber, SOr, SOwn, SPower, SProcedure, SRightBracket, SRightParenthesis, SSemicolon, SStep, SStrange, SString, SStringBegin, SStringEnd, SSwitch, STextEnd, SThen, SType, SUntil, SValue, SWhile, sign_tag}
 use Rattle.gier_tree.specs.Wanted.{NoNot, ANot, NoSign, ASign, Item, Want, WantName, WantNumber, WantExpr, WantSimple, MayNot, MaySign, WantPrimary, MayPower, MayTimes, MaySum, MayRelation, MayAnd, MayOr, MayImpl, MayEquiv, MayPart, WantSubscripts, WantActual, WantActuals, WantBytes, WantRight, WantAfterRight, WantAfterElement, MayNames, MayExprs, WantType, WantAfterType, WantAfterOwnType, WantSegment, WantPairs, MaySegments, WantConstant, WantFixed, WantFurther, MayFixed, MayFormals, MayValues, MaySpecifications, MayWord, MayDeclarations, WantStatement, WantAfterName, WantBranch, WantAfterBranchName, MayElse, MayStep, WantTurns, WantStatements, WantProgram, TreeOf, Trees, tail_items}
 use Rattle.gier_tree.specs.Taking.{Act, Refuse, Pass, Push, act, name_at, type_at, label_at, primary_of, want_by, same_sign}
-use Rattle.gier_pass3.proofs.ItemWords.{same_number}
+use Rattle.gier_pass3.proofs.EntryWords.{same_number}
 use Rattle.gier_pass3.proofs.Joined.{factor_spelled, term_spelled, arithmetic_spelled, negation_spelled, conjunction_spelled, disjunction_spelled, implication_spelled, simple_of_spelled}
 use Rattle.gier_pass3.proofs.Spelling.{spell_item, spell_all, spell_may_else, primary_spelled, right_spelled, statement_spelled, branch_spelled, conditional_spelled, group_spelled, turns_spelled, typed_spelled, own_spelled, specifier_spelled, program_spelled}
 

@@ -1,4 +1,4 @@
--- The words of the stack are as many as its items.
+-- The words of the stack are as many as its entries.
 use Rattle.std.proofs.Common.{◌≡◌, ◌<◌, ◌*◌, ◌∙◌, ap, arith, length}
 use Rattle.std.proofs.lemmas.List.{length-map}
 use Rattle.gier_text.specs.declared.tables.Tables.{Tables}

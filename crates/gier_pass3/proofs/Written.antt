@@ -17,7 +17,7 @@ use Rattle.gier_pass3.specs.Found.{FaultInvariant}
 use Rattle.gier_pass3.specs.Grammar.{StackInvariant}
 use Rattle.gier_pass3.specs.Lists.{stack_in, lookahead_in, ready_by}
 use Rattle.gier_text3.specs.PurePass.{WriterState, pass3, meet, pass3_text}
-use Rattle.gier_pass3.specs.Refinement.{WritesText3, RefinesMeet, entries_by, entries_in, writer_state_in, writes_behind, unless}
+use Rattle.gier_pass3.specs.Refinement.{WritesPrefix, RefinesMeet, entries_by, entries_in, writer_state_in, writes_behind, unless}
 use Rattle.gier_text3.proofs.Programs.{program_text}
 
 pub items_of : (stopped : Bool) (t : TablesModel) (read : List Symbol) → FaultInvariant stopped t read → stopped ≡ false → StackInvariant t
@@ -34,7 +34,7 @@ same_rest b more new u v stack lookahead =
     ap (λ (l : TableList). writes_behind b more (entries_by l.words []) (writer_state_in new u)) (sym stack)
     ∙ ap (λ (l : TableList). writes_behind b more (entries_in v) (let c : WriterState = record { lookahead = outbox_symbols l; name = new.name; last = new.last; owns = new.owns } in c)) (sym lookahead)
 
-writes_by : (stopped : Bool) (pass new : Pass3) (t u v : TablesModel) (read written : List Symbol) (s : Symbol) → pass.stopped ≡ stopped → ready_by t ≡ [] → (pass.stopped ≡ true → ready_by u ≡ ready_by t) → (pass.stopped ≡ true → new.stopped ≡ true) → (pass.stopped ≡ false → StackInvariant t → RefinesMeet (sign_tag (sign_of s)) s pass t new u) → (pass.stopped ≡ false → StackInvariant t) → stack_in v ≡ stack_in u → lookahead_in v ≡ lookahead_in u → WritesText3 pass t read written → WritesText3 new v (read ++ s ∷ []) (written ++ ready_by u)
+writes_by : (stopped : Bool) (pass new : Pass3) (t u v : TablesModel) (read written : List Symbol) (s : Symbol) → pass.stopped ≡ stopped → ready_by t ≡ [] → (pass.stopped ≡ true → ready_by u ≡ ready_by t) → (pass.stopped ≡ true → new.stopped ≡ true) → (pass.stopped ≡ false → StackInvariant t → RefinesMeet (sign_tag (sign_of s)) s pass t new u) → (pass.stopped ≡ false → StackInvariant t) → stack_in v ≡ stack_in u → lookahead_in v ≡ lookahead_in u → WritesPrefix pass t read written → WritesPrefix new v (read ++ s ∷ []) (written ++ ready_by u)
 writes_by true pass new t u v read written s is none silent stays wrote items stack lookahead h = λ more.
     ap pass3_text (append_assoc read (s ∷ []) more) ∙ h (s ∷ more)
     ∙ ap (λ b. written ++ writes_behind b (s ∷ more) (entries_in t) (writer_state_in pass t)) is
@@ -49,7 +49,7 @@ writes_by false pass new t u v read written s is none silent stays wrote items s
     ∙ sym (append_assoc written (ready_by u) _)
     ∙ ap (λ l. (written ++ ready_by u) ++ l) (unless_on new.stopped more (entries_in u) (writer_state_in new u) ∙ same_rest new.stopped more new u v stack lookahead)
 
-pub writes_more : (pass new : Pass3) (t u v : TablesModel) (read written : List Symbol) (s : Symbol) → ready_by t ≡ [] → (pass.stopped ≡ true → ready_by u ≡ ready_by t) → (pass.stopped ≡ true → new.stopped ≡ true) → (pass.stopped ≡ false → StackInvariant t → RefinesMeet (sign_tag (sign_of s)) s pass t new u) → (pass.stopped ≡ false → StackInvariant t) → stack_in v ≡ stack_in u → lookahead_in v ≡ lookahead_in u → WritesText3 pass t read written → WritesText3 new v (read ++ s ∷ []) (written ++ ready_by u)
+pub writes_more : (pass new : Pass3) (t u v : TablesModel) (read written : List Symbol) (s : Symbol) → ready_by t ≡ [] → (pass.stopped ≡ true → ready_by u ≡ ready_by t) → (pass.stopped ≡ true → new.stopped ≡ true) → (pass.stopped ≡ false → StackInvariant t → RefinesMeet (sign_tag (sign_of s)) s pass t new u) → (pass.stopped ≡ false → StackInvariant t) → stack_in v ≡ stack_in u → lookahead_in v ≡ lookahead_in u → WritesPrefix pass t read written → WritesPrefix new v (read ++ s ∷ []) (written ++ ready_by u)
 writes_more pass new t u v read written s none silent stays wrote items stack lookahead h = writes_by pass.stopped pass new t u v read written s refl none silent stays wrote items stack lookahead h
 
 nothing_more : (b : Bool) (st : List StackEntry) (c : WriterState) → writes_behind b [] st c ≡ []
@@ -57,7 +57,7 @@ nothing_more true st c = refl
 nothing_more false st c = refl
 
 -- at the end of a program's spelling its text 3 was written
-pub whole_text : (pass : Pass3) (t : TablesModel) (read written : List Symbol) (program : Program) → ready_by t ≡ [] → WritesText3 pass t read written → IsWritten program read → written ++ ready_by t ≡ text3 program
+pub whole_text : (pass : Pass3) (t : TablesModel) (read written : List Symbol) (program : Program) → ready_by t ≡ [] → WritesPrefix pass t read written → IsWritten program read → written ++ ready_by t ≡ text3 program
 whole_text pass t read written program none h spelled =
     ap (λ l. written ++ l) (none ∙ sym (nothing_more pass.stopped (entries_in t) (writer_state_in pass t)))
     ∙ sym (h [])

@@ -1,5 +1,6 @@
--- What a fault of structure is, said by programs: it stands at the first symbol with which no program goes on. And of which symbols
--- a program is built.
+-- What a fault of structure is, said by programs: it stands at the first symbol with which no program goes on. And of which
+-- symbols a
+-- program is built.
 use Rattle.std.specs.Prelude.{◌≡◌, ℕ, List, [], ◌∷◌, ◌++◌, None, Some}
 use Rattle.gier_symbol.specs.declared.symbol.Symbol.{Symbol}
 use Rattle.gier_tree.specs.Signs.{STextEnd, sign_of}

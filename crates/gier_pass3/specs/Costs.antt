@@ -9,7 +9,7 @@ use Rattle.gier_grammar.specs.declared.production.Production.{Production}
 use Rattle.gier_grammar.specs.GrammarSymbols.{credits}
 use Rattle.gier_grammar.specs.Productions.{actions_of, right_side_of, tag_of}
 
--- what an act adds at most to the weight of what is written and held
+-- what an action adds at most to the potential of what is written and looked ahead
 abbrev pub cost_of : Action → ℕ
 cost_of (Open construct) = 1
 cost_of WriteLookahead = 0
@@ -25,6 +25,6 @@ abbrev pub costs : List Action → ℕ
 costs [] = 0
 costs (action ∷ actions) = cost_of action + costs actions
 
--- what a rule costs, with what it wants
+-- what a production costs, with what it wants
 abbrev pub price : Production → ℕ
 price production = costs (actions_of production) + credits (right_side_of production)

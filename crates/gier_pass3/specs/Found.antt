@@ -54,7 +54,7 @@ abbrev pub FaultInvariant : (stopped : Bool) → TablesModel → (read : List Sy
 FaultInvariant false t read = GoesOn t read
 FaultInvariant true t read = HasFailed t read
 
--- before a symbol of this kind some items are nothing, and were passed
+-- before a symbol of this kind some grammar symbols are nothing
 pub record Passes (kind : Tag) (t u : TablesModel) : Type 0 where
   pub items : StackInvariant u
   pub same : (sign : Sign) (line : ℕ) → sign_tag sign ≡ kind → step_sign sign line (wanted_in t) ≡ step_sign sign line (wanted_in u)

@@ -1,49 +1,31 @@
--- What the pass wants next, said by the items of the grammar.
+-- What the pass wants next, said by the items of the definition of structure.
 use Rattle.std.specs.Prelude.{◌≡◌, ◌==◌, ◌+◌, ◌*◌, ◌/◌, ◌%◌, ℕ, List, [], ◌∷◌, ◌++◌, Option, None, Some}
 use Rattle.std.specs.List.{find}
 use Rattle.gier_tree.specs.Signs.{SBecomes, SColon, SElse, SLeftBracket, SRightParenthesis, SSemicolon, STextEnd, SThen, SUntil}
 use Rattle.gier_tree.specs.Trees.{most_further}
-use Rattle.gier_tree.specs.Wanted.{Item as GrammarItem, WantProgram, Want, MayDeclarations, WantStatement, WantStatements}
-use Rattle.gier_tree.specs.Wanted.{WantType, WantAfterOwnType, WantName, MayNames, WantConstant, WantFurther, MayFixed}
-use Rattle.gier_tree.specs.Wanted.{WantAfterType, WantExpr, WantPairs, MaySegments, MayExprs, MayFormals, MayValues}
-use Rattle.gier_tree.specs.Wanted.{MaySpecifications, MayWord, WantAfterName, WantBranch, WantAfterBranchName, MayElse, MayStep}
-use Rattle.gier_tree.specs.Wanted.{WantTurns, WantRight, WantAfterRight, WantAfterElement, WantSimple, MayNot, MaySign}
-use Rattle.gier_tree.specs.Wanted.{WantNumber, WantPrimary, MayPart, WantSubscripts, WantActual, WantBytes, WantActuals}
-use Rattle.gier_tree.specs.Wanted.{MayPower, MayTimes, MaySum, MayRelation, MayAnd, MayOr, MayImpl, MayEquiv}
+use Rattle.gier_tree.specs.Wanted.{Item as GrammarItem, WantProgram, Want, MayDeclarations, WantStatement, WantStatements, WantType}
+use Rattle.gier_tree.specs.Wanted.{WantAfterOwnType, WantName, MayNames, WantConstant, WantFurther, MayFixed, WantAfterType}
+use Rattle.gier_tree.specs.Wanted.{WantExpr, WantPairs, MaySegments, MayExprs, MayFormals, MayValues, MaySpecifications, MayWord}
+use Rattle.gier_tree.specs.Wanted.{WantAfterName, WantBranch, WantAfterBranchName, MayElse, MayStep, WantTurns, WantRight}
+use Rattle.gier_tree.specs.Wanted.{WantAfterRight, WantAfterElement, WantSimple, MayNot, MaySign, WantNumber, WantPrimary, MayPart}
+use Rattle.gier_tree.specs.Wanted.{WantSubscripts, WantActual, WantBytes, WantActuals, MayPower, MayTimes, MaySum, MayRelation}
+use Rattle.gier_tree.specs.Wanted.{MayAnd, MayOr, MayImpl, MayEquiv}
 use Rattle.gier_text.specs.TablesModel.{TablesModel}
 use Rattle.gier_grammar.specs.declared.grammar_symbol.GrammarSymbol.{GrammarSymbol}
-use Rattle.gier_grammar.specs.declared.grammar_symbol.GrammarSymbol.TheVariants.{OpenProgram as GOpenProgram}
-use Rattle.gier_grammar.specs.declared.grammar_symbol.GrammarSymbol.TheVariants.{OpenArraySegment as GOpenArraySegment}
-use Rattle.gier_grammar.specs.declared.grammar_symbol.GrammarSymbol.TheVariants.{OpenProcedureBody as GOpenProcedureBody}
-use Rattle.gier_grammar.specs.declared.grammar_symbol.GrammarSymbol.TheVariants.{OpenControlledStatement as GOpenControlledStatement}
-use Rattle.gier_grammar.specs.declared.grammar_symbol.GrammarSymbol.TheVariants.{OpenActual as GOpenActual}
-use Rattle.gier_grammar.specs.declared.grammar_symbol.GrammarSymbol.TheVariants.{OpenSubscript as GOpenSubscript}
-use Rattle.gier_grammar.specs.declared.grammar_symbol.GrammarSymbol.TheVariants.{OpenBound as GOpenBound}
-use Rattle.gier_grammar.specs.declared.grammar_symbol.GrammarSymbol.TheVariants.{OpenSwitchElement as GOpenSwitchElement}
-use Rattle.gier_grammar.specs.declared.grammar_symbol.GrammarSymbol.TheVariants.{OpenForElement as GOpenForElement}
-use Rattle.gier_grammar.specs.declared.grammar_symbol.GrammarSymbol.TheVariants.{ShutProgram as GShutProgram}
-use Rattle.gier_grammar.specs.declared.grammar_symbol.GrammarSymbol.TheVariants.{ShutBlock as GShutBlock}
-use Rattle.gier_grammar.specs.declared.grammar_symbol.GrammarSymbol.TheVariants.{ShutCompound as GShutCompound}
-use Rattle.gier_grammar.specs.declared.grammar_symbol.GrammarSymbol.TheVariants.{ShutTypeDeclaration as GShutTypeDeclaration}
-use Rattle.gier_grammar.specs.declared.grammar_symbol.GrammarSymbol.TheVariants.{ShutArraySegment as GShutArraySegment}
-use Rattle.gier_grammar.specs.declared.grammar_symbol.GrammarSymbol.TheVariants.{ShutSwitchDeclaration as GShutSwitchDeclaration}
-use Rattle.gier_grammar.specs.declared.grammar_symbol.GrammarSymbol.TheVariants.{ShutProcedureDeclaration as GShutProcedureDeclaration}
-use Rattle.gier_grammar.specs.declared.grammar_symbol.GrammarSymbol.TheVariants.{ShutProcedureBody as GShutProcedureBody}
-use Rattle.gier_grammar.specs.declared.grammar_symbol.GrammarSymbol.TheVariants.{ShutForStatement as GShutForStatement}
-use Rattle.gier_grammar.specs.declared.grammar_symbol.GrammarSymbol.TheVariants.{ShutControlledStatement as GShutControlledStatement}
-use Rattle.gier_grammar.specs.declared.grammar_symbol.GrammarSymbol.TheVariants.{ShutConditionalStatement as GShutConditionalStatement}
-use Rattle.gier_grammar.specs.declared.grammar_symbol.GrammarSymbol.TheVariants.{ShutActual as GShutActual}
-use Rattle.gier_grammar.specs.declared.grammar_symbol.GrammarSymbol.TheVariants.{ShutSubscript as GShutSubscript}
-use Rattle.gier_grammar.specs.declared.grammar_symbol.GrammarSymbol.TheVariants.{ShutBound as GShutBound}
-use Rattle.gier_grammar.specs.declared.grammar_symbol.GrammarSymbol.TheVariants.{ShutSwitchElement as GShutSwitchElement}
-use Rattle.gier_grammar.specs.declared.grammar_symbol.GrammarSymbol.TheVariants.{ShutForElement as GShutForElement}
-use Rattle.gier_grammar.specs.declared.grammar_symbol.GrammarSymbol.TheVariants.{ShutGoTo as GShutGoTo}
-use Rattle.gier_grammar.specs.declared.grammar_symbol.GrammarSymbol.TheVariants.{ShutConditionalExpression as GShutConditionalExpression}
-use Rattle.gier_grammar.specs.declared.grammar_symbol.GrammarSymbol.TheVariants.{AfterOwnType as GAfterOwnType}
-use Rattle.gier_grammar.specs.declared.grammar_symbol.GrammarSymbol.TheVariants.{Program as GProgram}
-use Rattle.gier_grammar.specs.declared.grammar_symbol.GrammarSymbol.TheVariants.{ProgramColon as GProgramColon}
-use Rattle.gier_grammar.specs.declared.grammar_symbol.GrammarSymbol.TheVariants.{TextEnd as GTextEnd, AfterBegin as GAfterBegin}
-use Rattle.gier_grammar.specs.declared.grammar_symbol.GrammarSymbol.TheVariants.{BlockTail as GBlockTail}
+use Rattle.gier_grammar.specs.declared.grammar_symbol.GrammarSymbol.TheVariants.{OpenProgram, OpenArraySegment, OpenProcedureBody}
+use Rattle.gier_grammar.specs.declared.grammar_symbol.GrammarSymbol.TheVariants.{OpenControlledStatement, OpenActual, OpenSubscript}
+use Rattle.gier_grammar.specs.declared.grammar_symbol.GrammarSymbol.TheVariants.{OpenBound, OpenSwitchElement, OpenForElement}
+use Rattle.gier_grammar.specs.declared.grammar_symbol.GrammarSymbol.TheVariants.{ShutProgram, ShutBlock, ShutCompound}
+use Rattle.gier_grammar.specs.declared.grammar_symbol.GrammarSymbol.TheVariants.{ShutTypeDeclaration, ShutArraySegment}
+use Rattle.gier_grammar.specs.declared.grammar_symbol.GrammarSymbol.TheVariants.{ShutSwitchDeclaration, ShutProcedureDeclaration}
+use Rattle.gier_grammar.specs.declared.grammar_symbol.GrammarSymbol.TheVariants.{ShutProcedureBody, ShutForStatement}
+use Rattle.gier_grammar.specs.declared.grammar_symbol.GrammarSymbol.TheVariants.{ShutControlledStatement, ShutConditionalStatement}
+use Rattle.gier_grammar.specs.declared.grammar_symbol.GrammarSymbol.TheVariants.{ShutActual, ShutSubscript, ShutBound}
+use Rattle.gier_grammar.specs.declared.grammar_symbol.GrammarSymbol.TheVariants.{ShutSwitchElement, ShutForElement, ShutGoTo}
+use Rattle.gier_grammar.specs.declared.grammar_symbol.GrammarSymbol.TheVariants.{ShutConditionalExpression}
+use Rattle.gier_grammar.specs.declared.grammar_symbol.GrammarSymbol.TheVariants.{AfterOwnType as GAfterOwnType, Program as GProgram}
+use Rattle.gier_grammar.specs.declared.grammar_symbol.GrammarSymbol.TheVariants.{ProgramColon as GProgramColon, TextEnd as GTextEnd}
+use Rattle.gier_grammar.specs.declared.grammar_symbol.GrammarSymbol.TheVariants.{AfterBegin as GAfterBegin, BlockTail as GBlockTail}
 use Rattle.gier_grammar.specs.declared.grammar_symbol.GrammarSymbol.TheVariants.{CompoundTail as GCompoundTail}
 use Rattle.gier_grammar.specs.declared.grammar_symbol.GrammarSymbol.TheVariants.{FirstDeclared as GFirstDeclared}
 use Rattle.gier_grammar.specs.declared.grammar_symbol.GrammarSymbol.TheVariants.{Declared as GDeclared}
@@ -51,48 +33,43 @@ use Rattle.gier_grammar.specs.declared.grammar_symbol.GrammarSymbol.TheVariants.
 use Rattle.gier_grammar.specs.declared.grammar_symbol.GrammarSymbol.TheVariants.{OwnType as GOwnType, OwnName as GOwnName}
 use Rattle.gier_grammar.specs.declared.grammar_symbol.GrammarSymbol.TheVariants.{MoreOwnNames as GMoreOwnNames}
 use Rattle.gier_grammar.specs.declared.grammar_symbol.GrammarSymbol.TheVariants.{FixedBounds as GFixedBounds}
-use Rattle.gier_grammar.specs.declared.grammar_symbol.GrammarSymbol.TheVariants.{FixedColon as GFixedColon}
-use Rattle.gier_grammar.specs.declared.grammar_symbol.GrammarSymbol.TheVariants.{MorePairs as GMorePairs}
+use Rattle.gier_grammar.specs.declared.grammar_symbol.GrammarSymbol.TheVariants.{FixedColon as GFixedColon, MorePairs as GMorePairs}
 use Rattle.gier_grammar.specs.declared.grammar_symbol.GrammarSymbol.TheVariants.{MoreFixedSegments as GMoreFixedSegments}
 use Rattle.gier_grammar.specs.declared.grammar_symbol.GrammarSymbol.TheVariants.{AfterType as GAfterType, Name as GName}
 use Rattle.gier_grammar.specs.declared.grammar_symbol.GrammarSymbol.TheVariants.{MoreNames as GMoreNames, Bounds as GBounds}
-use Rattle.gier_grammar.specs.declared.grammar_symbol.GrammarSymbol.TheVariants.{BoundColon as GBoundColon}
-use Rattle.gier_grammar.specs.declared.grammar_symbol.GrammarSymbol.TheVariants.{BoundTail as GBoundTail}
+use Rattle.gier_grammar.specs.declared.grammar_symbol.GrammarSymbol.TheVariants.{BoundColon as GBoundColon, BoundTail as GBoundTail}
 use Rattle.gier_grammar.specs.declared.grammar_symbol.GrammarSymbol.TheVariants.{MoreSegments as GMoreSegments}
 use Rattle.gier_grammar.specs.declared.grammar_symbol.GrammarSymbol.TheVariants.{SwitchBecomes as GSwitchBecomes}
 use Rattle.gier_grammar.specs.declared.grammar_symbol.GrammarSymbol.TheVariants.{MoreSwitchElements as GMoreSwitchElements}
 use Rattle.gier_grammar.specs.declared.grammar_symbol.GrammarSymbol.TheVariants.{MayFormals as GMayFormals, Formal as GFormal}
 use Rattle.gier_grammar.specs.declared.grammar_symbol.GrammarSymbol.TheVariants.{FormalTail as GFormalTail, Heading as GHeading}
-use Rattle.gier_grammar.specs.declared.grammar_symbol.GrammarSymbol.TheVariants.{MayValues as GMayValues}
-use Rattle.gier_grammar.specs.declared.grammar_symbol.GrammarSymbol.TheVariants.{ValueName as GValueName}
+use Rattle.gier_grammar.specs.declared.grammar_symbol.GrammarSymbol.TheVariants.{MayValues as GMayValues, ValueName as GValueName}
 use Rattle.gier_grammar.specs.declared.grammar_symbol.GrammarSymbol.TheVariants.{MoreValueNames as GMoreValueNames}
 use Rattle.gier_grammar.specs.declared.grammar_symbol.GrammarSymbol.TheVariants.{Semicolon as GSemicolon}
 use Rattle.gier_grammar.specs.declared.grammar_symbol.GrammarSymbol.TheVariants.{MoreSpecifications as GMoreSpecifications}
 use Rattle.gier_grammar.specs.declared.grammar_symbol.GrammarSymbol.TheVariants.{MaySpecifier as GMaySpecifier}
 use Rattle.gier_grammar.specs.declared.grammar_symbol.GrammarSymbol.TheVariants.{SpecifiedName as GSpecifiedName}
 use Rattle.gier_grammar.specs.declared.grammar_symbol.GrammarSymbol.TheVariants.{MoreSpecifiedNames as GMoreSpecifiedNames}
-use Rattle.gier_grammar.specs.declared.grammar_symbol.GrammarSymbol.TheVariants.{Statement as GStatement}
-use Rattle.gier_grammar.specs.declared.grammar_symbol.GrammarSymbol.TheVariants.{AfterName as GAfterName, Branch as GBranch}
+use Rattle.gier_grammar.specs.declared.grammar_symbol.GrammarSymbol.TheVariants.{Statement as GStatement, AfterName as GAfterName}
+use Rattle.gier_grammar.specs.declared.grammar_symbol.GrammarSymbol.TheVariants.{Branch as GBranch}
 use Rattle.gier_grammar.specs.declared.grammar_symbol.GrammarSymbol.TheVariants.{AfterBranchName as GAfterBranchName}
-use Rattle.gier_grammar.specs.declared.grammar_symbol.GrammarSymbol.TheVariants.{MayElse as GMayElse}
-use Rattle.gier_grammar.specs.declared.grammar_symbol.GrammarSymbol.TheVariants.{ForVariable as GForVariable}
+use Rattle.gier_grammar.specs.declared.grammar_symbol.GrammarSymbol.TheVariants.{MayElse as GMayElse, ForVariable as GForVariable}
 use Rattle.gier_grammar.specs.declared.grammar_symbol.GrammarSymbol.TheVariants.{ForBecomes as GForBecomes, MayStep as GMayStep}
 use Rattle.gier_grammar.specs.declared.grammar_symbol.GrammarSymbol.TheVariants.{ForTail as GForTail, Until as GUntil}
 use Rattle.gier_grammar.specs.declared.grammar_symbol.GrammarSymbol.TheVariants.{Becomes as GBecomes, Right as GRight}
 use Rattle.gier_grammar.specs.declared.grammar_symbol.GrammarSymbol.TheVariants.{AfterRightName as GAfterRightName}
 use Rattle.gier_grammar.specs.declared.grammar_symbol.GrammarSymbol.TheVariants.{AfterRightElement as GAfterRightElement}
 use Rattle.gier_grammar.specs.declared.grammar_symbol.GrammarSymbol.TheVariants.{Expression as GExpression, Simple as GSimple}
-use Rattle.gier_grammar.specs.declared.grammar_symbol.GrammarSymbol.TheVariants.{Then as GThen, Else as GElse}
-use Rattle.gier_grammar.specs.declared.grammar_symbol.GrammarSymbol.TheVariants.{MayNot as GMayNot, MaySign as GMaySign}
-use Rattle.gier_grammar.specs.declared.grammar_symbol.GrammarSymbol.TheVariants.{Number as GNumber, Primary as GPrimary}
-use Rattle.gier_grammar.specs.declared.grammar_symbol.GrammarSymbol.TheVariants.{MayPower as GMayPower, MayTimes as GMayTimes}
-use Rattle.gier_grammar.specs.declared.grammar_symbol.GrammarSymbol.TheVariants.{MaySum as GMaySum, MayRelation as GMayRelation}
-use Rattle.gier_grammar.specs.declared.grammar_symbol.GrammarSymbol.TheVariants.{MayAnd as GMayAnd, MayOr as GMayOr}
-use Rattle.gier_grammar.specs.declared.grammar_symbol.GrammarSymbol.TheVariants.{MayImplication as GMayImplication}
+use Rattle.gier_grammar.specs.declared.grammar_symbol.GrammarSymbol.TheVariants.{Then as GThen, Else as GElse, MayNot as GMayNot}
+use Rattle.gier_grammar.specs.declared.grammar_symbol.GrammarSymbol.TheVariants.{MaySign as GMaySign, Number as GNumber}
+use Rattle.gier_grammar.specs.declared.grammar_symbol.GrammarSymbol.TheVariants.{Primary as GPrimary, MayPower as GMayPower}
+use Rattle.gier_grammar.specs.declared.grammar_symbol.GrammarSymbol.TheVariants.{MayTimes as GMayTimes, MaySum as GMaySum}
+use Rattle.gier_grammar.specs.declared.grammar_symbol.GrammarSymbol.TheVariants.{MayRelation as GMayRelation, MayAnd as GMayAnd}
+use Rattle.gier_grammar.specs.declared.grammar_symbol.GrammarSymbol.TheVariants.{MayOr as GMayOr, MayImplication as GMayImplication}
 use Rattle.gier_grammar.specs.declared.grammar_symbol.GrammarSymbol.TheVariants.{MayEquivalence as GMayEquivalence}
 use Rattle.gier_grammar.specs.declared.grammar_symbol.GrammarSymbol.TheVariants.{MayPart as GMayPart}
-use Rattle.gier_grammar.specs.declared.grammar_symbol.GrammarSymbol.TheVariants.{SubscriptTail as GSubscriptTail}
-use Rattle.gier_grammar.specs.declared.grammar_symbol.GrammarSymbol.TheVariants.{Actual as GActual, StringRest as GStringRest}
+use Rattle.gier_grammar.specs.declared.grammar_symbol.GrammarSymbol.TheVariants.{SubscriptTail as GSubscriptTail, Actual as GActual}
+use Rattle.gier_grammar.specs.declared.grammar_symbol.GrammarSymbol.TheVariants.{StringRest as GStringRest}
 use Rattle.gier_grammar.specs.declared.grammar_symbol.GrammarSymbol.TheVariants.{ActualTail as GActualTail}
 use Rattle.gier_grammar.specs.declared.grammar_symbol.GrammarSymbol.TheVariants.{RightParenthesis as GRightParenthesis}
 use Rattle.gier_grammar.specs.declared.stack_entry.StackEntry.{StackEntry}
@@ -100,8 +77,9 @@ use Rattle.gier_grammar.specs.GrammarSymbols.{number_of}
 use Rattle.gier_grammar.specs.StackEntries.{beside}
 use Rattle.gier_pass3.specs.Lists.{stack_in}
 
--- the items of the grammar that an item stands for, where so many more pairs of constants are allowed; an item that writes a mark
--- wants no symbol, and stands for none
+-- the items of the definition that a grammar symbol stands for, where so many more pairs of constants are allowed; one that
+-- writes a
+-- mark wants no symbol, and stands for none
 abbrev pub meant_by : GrammarSymbol → (left : ℕ) → List GrammarItem
 meant_by GProgram left = WantProgram ∷ []
 meant_by GProgramColon left = Want SColon ∷ []
@@ -179,13 +157,14 @@ meant_by GMayImplication left = MayImpl ∷ []
 meant_by GMayEquivalence left = MayEquiv ∷ []
 meant_by _ left = []
 
--- what is wanted where an item stands above these; in the grammar a program has the end of the text with it, so that there is
--- nothing below it
+-- what is wanted where a grammar symbol stands above these; in the definition a program has the end of the text with it, so that
+-- there is nothing
+-- below it
 abbrev pub wanted_above : GrammarSymbol → (left : ℕ) → (below : List GrammarItem) → List GrammarItem
 wanted_above GProgram left below = WantProgram ∷ []
 wanted_above item left below = meant_by item left ++ below
 
--- the same of several items
+-- the same of several of them
 abbrev pub all_above : List GrammarSymbol → (left : ℕ) → (below : List GrammarItem) → List GrammarItem
 all_above [] left below = below
 all_above (item ∷ items) left below = wanted_above item left (all_above items left below)
@@ -201,11 +180,11 @@ AreAbove (item ∷ items) left below = IsAbove item (all_above items left below)
 
 abbrev pub all_items : List GrammarSymbol
 all_items =
-    GOpenProgram ∷ GOpenArraySegment ∷ GOpenProcedureBody ∷ GOpenControlledStatement ∷ GOpenActual ∷ GOpenSubscript ∷ GOpenBound ∷
-    GOpenSwitchElement ∷ GOpenForElement ∷ GShutProgram ∷ GShutBlock ∷ GShutCompound ∷ GShutTypeDeclaration ∷ GShutArraySegment ∷
-    GShutSwitchDeclaration ∷ GShutProcedureDeclaration ∷ GShutProcedureBody ∷ GShutForStatement ∷ GShutControlledStatement ∷
-    GShutConditionalStatement ∷ GShutActual ∷ GShutSubscript ∷ GShutBound ∷ GShutSwitchElement ∷ GShutForElement ∷ GShutGoTo ∷
-    GShutConditionalExpression ∷ GAfterOwnType ∷ GProgram ∷ GProgramColon ∷ GTextEnd ∷ GAfterBegin ∷ GBlockTail ∷ GCompoundTail ∷
+    OpenProgram ∷ OpenArraySegment ∷ OpenProcedureBody ∷ OpenControlledStatement ∷ OpenActual ∷ OpenSubscript ∷ OpenBound ∷
+    OpenSwitchElement ∷ OpenForElement ∷ ShutProgram ∷ ShutBlock ∷ ShutCompound ∷ ShutTypeDeclaration ∷ ShutArraySegment ∷
+    ShutSwitchDeclaration ∷ ShutProcedureDeclaration ∷ ShutProcedureBody ∷ ShutForStatement ∷ ShutControlledStatement ∷
+    ShutConditionalStatement ∷ ShutActual ∷ ShutSubscript ∷ ShutBound ∷ ShutSwitchElement ∷ ShutForElement ∷ ShutGoTo ∷
+    ShutConditionalExpression ∷ GAfterOwnType ∷ GProgram ∷ GProgramColon ∷ GTextEnd ∷ GAfterBegin ∷ GBlockTail ∷ GCompoundTail ∷
     GFirstDeclared ∷ GDeclared ∷ GMoreDeclarations ∷ GOwnType ∷ GOwnName ∷ GMoreOwnNames ∷ GFixedBounds ∷ GFixedColon ∷ GMorePairs ∷
     GMoreFixedSegments ∷ GAfterType ∷ GName ∷ GMoreNames ∷ GBounds ∷ GBoundColon ∷ GBoundTail ∷ GMoreSegments ∷ GSwitchBecomes ∷
     GMoreSwitchElements ∷ GMayFormals ∷ GFormal ∷ GFormalTail ∷ GHeading ∷ GMayValues ∷ GValueName ∷ GMoreValueNames ∷ GSemicolon ∷
@@ -215,11 +194,11 @@ all_items =
     GMaySum ∷ GMayRelation ∷ GMayAnd ∷ GMayOr ∷ GMayImplication ∷ GMayEquivalence ∷ GMayPart ∷ GSubscriptTail ∷ GActual ∷
     GStringRest ∷ GActualTail ∷ GRightParenthesis ∷ []
 
--- the item with this number
+-- the grammar symbol with this number
 unfoldable pub item_at : (number : ℕ) → Option GrammarSymbol
 item_at number = find (λ item. number_of item == number) all_items
 
--- the word of an item on the stack
+-- the word of a grammar symbol on the stack
 abbrev pub word_of : GrammarSymbol → (left : ℕ) → ℕ
 word_of item left = number_of item + beside item left * 256
 
@@ -230,12 +209,12 @@ read_by (Some item) left below = wanted_above item left below
 abbrev pub read_word : ℕ → (below : List GrammarItem) → List GrammarItem
 read_word word below = read_by (item_at (word % 256)) (word / 256) below
 
--- what the words of a stack want above these; the last word is the next item
+-- what the words of a stack want above these; the last word is the next grammar symbol
 abbrev pub read_words : List ℕ → (below : List GrammarItem) → List GrammarItem
 read_words [] below = below
 read_words (word ∷ words) below = read_words words (read_word word below)
 
--- each word is an item's, and each program has the end of the text below it
+-- each word is a grammar symbol's, and each program has the end of the text below it
 abbrev pub IsItem : Option GrammarSymbol → (below : List GrammarItem) → Type 0
 IsItem None below = ⊥
 IsItem (Some item) below = IsAbove item below
@@ -251,8 +230,8 @@ wanted_in t = read_words (stack_in t).words []
 abbrev pub StackInvariant : TablesModel → Type 0
 StackInvariant t = AreItems (stack_in t).words []
 
--- the next item was taken away, or there was none
+-- the next entry was taken away, or there was none
 abbrev pub Pops : (before : List GrammarItem) → Option StackEntry → TablesModel → Type 0
 Pops before None t = before ≡ []
-Pops before (Some next) t = (before ≡ wanted_above next.symbol next.left (wanted_in t)) × IsAbove next.symbol (wanted_in t)
-    × StackInvariant t
+Pops before (Some next) t =
+    (before ≡ wanted_above next.symbol next.left (wanted_in t)) × IsAbove next.symbol (wanted_in t) × StackInvariant t

@@ -9,7 +9,7 @@ use Rattle.gier_pass3.specs.declared.pass.Pass3.{Pass3}
 use Rattle.gier_tree.specs.Structure.{structure_fault, IsWritten}
 use Rattle.gier_tree.specs.TextsOf.{text3}
 use Rattle.gier_tree.specs.Trees.{Program}
-use Rattle.gier_pass3.specs.Refinement.{WritesText3}
+use Rattle.gier_pass3.specs.Refinement.{WritesPrefix}
 use Rattle.gier_pass3.specs.Lists.{ListsInvariant, stack_in, lookahead_in, ready_in, depth, credit, lookahead_by, ready_by}
 use Rattle.gier_pass3.specs.Found.{IsBare, AreFound, FaultInvariant}
 
@@ -19,7 +19,7 @@ pub record IsFit (text bytes : ℕ) (s : Symbol) : Type 0 where
   pub letter : IsTrue (stands_in text s.tag)
   pub numbered : IsTrue (is_numbered text bytes s)
 
--- an identifier that is held may still become a label
+-- an identifier that is looked ahead may still become a label
 abbrev pub name_weight : Option Symbol → ℕ
 name_weight None = 0
 name_weight (Some name) = 6
@@ -28,7 +28,7 @@ abbrev pub IsName : ℕ → Option Symbol → Type 0
 IsName bytes None = Unit {0}
 IsName bytes (Some name) = IsFit 2 bytes name
 
--- what is held and ready, and what the items that are wanted may still write
+-- what is looked ahead and ready, and what the grammar symbols that are wanted may still write
 abbrev pub total_potential : Pass3 → TablesModel → ℕ
 total_potential pass t = credit t + potential 3 (lookahead_by t) + potential 3 (ready_by t) + name_weight pass.name
 
@@ -49,7 +49,7 @@ pub record HasRoom (cost deeper : ℕ) (pass : Pass3) (t : TablesModel) : Type 0
   pub total_potential : total_potential pass t + cost ≤ 8 * pass.bytes + 16
   pub depth : depth t + deeper ≤ 12 * pass.bytes + 32
 
--- the load grows at most by so much, and the stack by so many items
+-- the potential grows at most by so much, and the stack by so many entries
 pub record PreservesState (cost deeper : ℕ) (pass new : Pass3) (t u : TablesModel) : Type 0 where
   pub holds : StateInvariant new u
   pub total_potential : total_potential new u ≤ total_potential pass t + cost
@@ -92,7 +92,7 @@ pub record SymbolInvariant (pass : Pass3) (t : TablesModel) : Type 0 where
   pub limit : pass.bytes ≤ t.limit
   pub small : t.limit ≤ 524288
 
--- a symbol was taken: no more than eight is added to the load
+-- a symbol was taken: no more than eight is added to the potential
 pub record PreservesInvariant (pass new : Pass3) (t u : TablesModel) : Type 0 where
   pub ready : SymbolInvariant new u
   pub total_potential : total_potential new u ≤ total_potential pass t + 8
@@ -100,7 +100,7 @@ pub record PreservesInvariant (pass new : Pass3) (t u : TablesModel) : Type 0 wh
   pub bytes : new.bytes ≡ pass.bytes
   pub limit : u.limit ≡ t.limit
 
--- so many symbols were taken; what is written is of text 3, and not too heavy with what is held
+-- so many symbols were taken; what is written is of text 3, and not too heavy with what is looked ahead
 pub record PassInvariant (pass : Pass3) (t : TablesModel) (read written : List Symbol) : Type 0 where
   pub ready : SymbolInvariant pass t
   pub none_ready : ready_by t ≡ []
@@ -108,7 +108,7 @@ pub record PassInvariant (pass : Pass3) (t : TablesModel) (read written : List S
   pub letters : All (IsFit 3 pass.bytes) written
   pub light : potential 3 written + total_potential pass t ≤ 8 * length read + 2
   pub found : All IsBare read → FaultInvariant pass.stopped t read
-  pub writes : All IsBare read → WritesText3 pass t read written
+  pub writes : All IsBare read → WritesPrefix pass t read written
 
 -- letters of text 2 with small numbers of identifiers, at most one for each byte and one for the end
 pub record IsTextTwo (bytes : ℕ) (list : List Symbol) : Type 0 where

@@ -1,4 +1,4 @@
--- The three lists of the pass: what is wanted next, what is held, and what is ready to be written.
+-- The three lists of the pass: what is wanted next, what is looked ahead, and what is ready to be written.
 use Rattle.std.specs.Prelude.{◌≡◌, ◌+◌, ◌%◌, ◌++◌, ℕ, zero, suc, List, [], length}
 use Rattle.gier_symbol.specs.declared.symbol.Symbol.{Symbol}
 use Rattle.gier_text.specs.TablesModel.{TablesModel}

@@ -14,7 +14,7 @@ use Rattle.gier_pass3.specs.declared.pass.Pass3.{Pass3}
 use Rattle.gier_pass3.specs.Grammar.{item_at}
 use Rattle.gier_pass3.specs.Lists.{stack_in, lookahead_by, ready_by}
 
--- what stands on the stack; the last word is the next item
+-- what stands on the stack; the last word is the next entry
 abbrev pub entry_by : Option GrammarSymbol → (left : ℕ) → List StackEntry → List StackEntry
 entry_by None left below = below
 entry_by (Some item) left below = record { symbol = item; left = left } ∷ below
@@ -35,40 +35,49 @@ writes_behind true more st c = []
 writes_behind false more st c = pass3 more st c
 
 -- so much was written of what was read, and the rest is written of what comes
-abbrev pub WritesText3 : Pass3 → TablesModel → (read written : List Symbol) → Type 0
-WritesText3 pass t read written = (more : List Symbol) → pass3_text (read ++ more) ≡ written
-    ++ writes_behind pass.stopped more (entries_in t) (writer_state_in pass t)
+abbrev pub WritesPrefix : Pass3 → TablesModel → (read written : List Symbol) → Type 0
+WritesPrefix pass t read written =
+    (more : List Symbol) → pass3_text (read ++ more)
+    ≡ written ++ writes_behind pass.stopped more (entries_in t) (writer_state_in pass t)
 
--- what was made ready, and what is held then, where this is written of what was held before
-abbrev pub RefinesWriting : Pass3 → TablesModel → Pass3 → TablesModel → (Continuation → List Symbol) → Type 0
-RefinesWriting pass t new u out = (next : Continuation) → ready_by t ++ out next ≡ ready_by u ++ next (writer_state_in new u)
+-- what this writes is made ready, and the rest is written of the new state
+abbrev pub RefinesWriting : (WriterState → Continuation → List Symbol) → Pass3 → TablesModel → Pass3 → TablesModel → Type 0
+RefinesWriting writing pass t new u =
+    (next : Continuation) → ready_by t ++ writing (writer_state_in pass t) next ≡ ready_by u ++ next (writer_state_in new u)
 
--- the same of an item that was passed, of a rule that took a symbol, and of a symbol that was met
-abbrev pub RefinesEpsilon : GrammarSymbol → (here : ℕ) → (opened : Bool) → (result : Bool) → Pass3 → TablesModel → Pass3
-    → TablesModel → Type 0
-RefinesEpsilon item here opened result pass t new u = (next : Bool → Continuation) → ready_by t
-    ++ epsilon_on item here opened (writer_state_in pass t) next ≡ ready_by u ++ next result (writer_state_in new u)
+-- the same where it is told whether a construct was opened at this symbol
+abbrev pub RefinesTelling : (WriterState → (Bool → Continuation) → List Symbol) → (result : Bool)
+    → Pass3 → TablesModel → Pass3 → TablesModel → Type 0
+RefinesTelling writing result pass t new u =
+    (next : Bool → Continuation) → ready_by t ++ writing (writer_state_in pass t) next
+    ≡ ready_by u ++ next result (writer_state_in new u)
 
-abbrev pub RefinesMark : Mark → (here : ℕ) → (opened : Bool) → (result : Bool) → Pass3 → TablesModel → Pass3 → TablesModel → Type 0
-RefinesMark mark here opened result pass t new u = (next : Bool → Continuation) → ready_by t
-    ++ mark_symbol mark (line_by mark here pass.last opened)
-    ∷ next (opened_by (Some mark) opened) (writer_state_in pass t) ≡ ready_by u ++ next result (writer_state_in new u)
+abbrev pub RefinesEpsilon : GrammarSymbol → (here : ℕ) → (opened : Bool) → (result : Bool)
+    → Pass3 → TablesModel → Pass3 → TablesModel → Type 0
+RefinesEpsilon item here opened result = RefinesTelling (epsilon_on item here opened) result
 
+abbrev pub RefinesMark : Mark → (here : ℕ) → (opened : Bool) → (result : Bool)
+    → Pass3 → TablesModel → Pass3 → TablesModel → Type 0
+RefinesMark mark here opened result =
+    RefinesTelling (λ c next. mark_symbol mark (line_by mark here c.last opened) ∷ next (opened_by (Some mark) opened) c) result
+
+-- a production took the symbol
 abbrev pub RefinesExpand : Production → (left : ℕ) → Symbol → Pass3 → TablesModel → Pass3 → TablesModel → Type 0
-RefinesExpand production left s pass t new u = (next : StackContinuation) → ready_by t
-    ++ expand_on production left s next (entries_in t) (writer_state_in pass t) ≡ ready_by u
-    ++ next (entries_in u) (writer_state_in new u)
+RefinesExpand production left s pass t new u =
+    (next : StackContinuation) → ready_by t ++ expand_on production left s next (entries_in t) (writer_state_in pass t)
+    ≡ ready_by u ++ next (entries_in u) (writer_state_in new u)
 
 abbrev pub unless : Bool → List Symbol → List Symbol
 unless true rest = []
 unless false rest = rest
 
+-- a symbol was met: nothing more is written where it was refused
 abbrev pub RefinesMeet : Tag → Symbol → Pass3 → TablesModel → Pass3 → TablesModel → Type 0
-RefinesMeet kind s pass t new u = (next : StackContinuation) → ready_by t
-    ++ meet kind s next (entries_in t) false (writer_state_in pass t) ≡ ready_by u
-    ++ unless new.stopped (next (entries_in u) (writer_state_in new u))
+RefinesMeet kind s pass t new u =
+    (next : StackContinuation) → ready_by t ++ meet kind s next (entries_in t) false (writer_state_in pass t)
+    ≡ ready_by u ++ unless new.stopped (next (entries_in u) (writer_state_in new u))
 
--- the next item was taken away, or there was none
+-- the next entry was taken away, or there was none
 abbrev pub PopsStackEntry : (before : List StackEntry) → Option StackEntry → TablesModel → Type 0
 PopsStackEntry before None t = before ≡ []
 PopsStackEntry before (Some next) t = before ≡ next ∷ entries_in t

@@ -1,5 +1,5 @@
-// What is held back: labels, an identifier that may be one, and words of which it isn't known yet what they begin; and
-// what is ready to be written.
+// The lookahead: labels, and words of which it isn't known yet what they begin; behind it may stand an identifier that may be
+// a label. And the symbols that are ready to be written.
 ghost use Rattle.std.specs.Prelude.{◌≡◌, ◌≤◌, ◌<◌, ◌+◌, ◌^◌, ◌++◌, ◌∷◌, [], length, IfSome};
 ghost use Rattle.gier_symbol.specs.Symbols.{IsSymbol};
 ghost use Rattle.gier_text.specs.TablesModel.{tables_model};
@@ -11,7 +11,7 @@ ghost use Rattle.gier_pass3.specs.Lists.{lookahead_by, ready_by};
 use gier_symbol::Symbol;
 use gier_text::{Tables, put};
 
-/// The list of symbols that are held.
+/// The list of symbols that are looked ahead.
 pub const LOOKAHEAD: u8 = 1;
 
 /// The list of symbols that are ready to be written.
@@ -27,7 +27,7 @@ pub fn ready(tables: &mut Tables, s: Symbol)
     put(tables, READY, s);
 }
 
-/// Holds a symbol.
+/// Puts a symbol behind the lookahead.
 pub fn add_lookahead(tables: &mut Tables, s: Symbol)
     requires lists { ListsInvariant (tables_model tables.old) }
     requires room { length (lookahead_by (tables_model tables.old)) < (lookahead_in (tables_model tables.old)).capacity }
@@ -46,7 +46,7 @@ fn lookahead_at(tables: &Tables, at: u32) -> Option<Symbol>
     Symbol::decode([tables.word(LOOKAHEAD, at, 0), tables.word(LOOKAHEAD, at, 1)])
 }
 
-/// The line of the first symbol that is held, or another line where none is.
+/// The line of the first symbol of the lookahead, or another line where there is none.
 pub fn first_line(tables: &Tables, name: Option<Symbol>, other: u32) -> u32
     requires lists { ListsInvariant (tables_model tables.now) }
     requires name { IfSome name IsSymbol }
@@ -75,12 +75,12 @@ fn name_line(name: Option<Symbol>, other: u32) -> u32
     }
 }
 
-/// Makes all that is held ready, and the identifier, if any, behind it.
+/// Makes the lookahead ready, and the identifier, if any, behind it.
 pub fn ready_all(tables: &mut Tables, name: Option<Symbol>)
     requires lists { ListsInvariant (tables_model tables.old) }
     requires name { IfSome name IsSymbol }
-    requires room { length (ready_by (tables_model tables.old)) + length (lookahead_by (tables_model tables.old)) + length
-        (name_symbols name) ≤ (ready_in (tables_model tables.old)).capacity }
+    requires room { length (ready_by (tables_model tables.old)) + length (lookahead_by (tables_model tables.old))
+        + length (name_symbols name) ≤ (ready_in (tables_model tables.old)).capacity }
     ensures { EmptiesLookahead (ready_by (tables_model tables.old) ++ lookahead_by (tables_model tables.old) ++ name_symbols name)
         (tables_model tables.old) (tables_model tables.new) }
 {
@@ -90,7 +90,7 @@ pub fn ready_all(tables: &mut Tables, name: Option<Symbol>)
     }
 }
 
-#[tactic(auto, using(crate::proofs::Released::one_more, crate::proofs::Released::still_fewer))]
+#[tactic(auto, using(crate::proofs::LookaheadReady::one_more, crate::proofs::LookaheadReady::still_fewer))]
 fn ready_lookahead(tables: &mut Tables)
     requires lists { ListsInvariant (tables_model tables.old) }
     requires room { length (ready_by (tables_model tables.old)) + length (lookahead_by (tables_model tables.old))
@@ -107,10 +107,10 @@ fn ready_lookahead(tables: &mut Tables)
 fn ready_at(tables: &mut Tables, at: u32)
     requires lists { ListsInvariant (tables_model tables.old) }
     requires at { at < (lookahead_in (tables_model tables.old)).count }
-    requires room { length (ready_by (tables_model tables.old)) + length
-        (if_any (symbol_at (lookahead_in (tables_model tables.old)) at)) ≤ (ready_in (tables_model tables.old)).capacity }
-    ensures { AddsReady (if_any (symbol_at (lookahead_in (tables_model tables.old)) at)) (tables_model tables.old)
-        (tables_model tables.new) }
+    requires room { length (ready_by (tables_model tables.old))
+        + length (if_any (symbol_at (lookahead_in (tables_model tables.old)) at)) ≤ (ready_in (tables_model tables.old)).capacity }
+    ensures { AddsReady (if_any (symbol_at (lookahead_in (tables_model tables.old)) at))
+        (tables_model tables.old) (tables_model tables.new) }
 {
     if let Some(symbol) = lookahead_at(tables, at) {
         ready(tables, symbol);

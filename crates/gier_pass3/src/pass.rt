@@ -13,8 +13,8 @@ ghost use Rattle.gier_grammar.specs.Productions.{left_after, tag_of, right_side_
 ghost use Rattle.gier_pass3.specs.Lists.{depth, lookahead_by, ready_by, stack_in};
 ghost use Rattle.gier_pass3.specs.Refinement.{RefinesWriting, RefinesEpsilon, RefinesMark, RefinesExpand, RefinesMeet};
 ghost use Rattle.gier_pass3.specs.Refinement.{writer_state_in};
-ghost use Rattle.gier_text3.specs.PurePass.{actions_on, action_on, as_role, first_line, add_label, name_number};
-ghost use Rattle.gier_text3.specs.PurePass.{write_lookahead, with_owns};
+ghost use Rattle.gier_text3.specs.PurePass.{actions_on, action_on, as_role, first_line, add_label, name_number, write_lookahead};
+ghost use Rattle.gier_text3.specs.PurePass.{with_owns};
 ghost use Rattle.gier_grammar.specs.declared.production.Action.TheVariants.{Lookahead};
 ghost use Rattle.gier_grammar.specs.declared.grammar_symbol.Mark.TheVariants.{Open};
 ghost use Rattle.gier_symbol.specs.ByTag.{sym};
@@ -33,13 +33,13 @@ use gier_text::{Fault, FaultKind, OUTBOX_WIDTH, Pass, PassStop, Tables, Text, fl
 use gier_tree::Construct;
 use gier_word::Odd;
 
-// At most so many items are wanted for each symbol, and so many symbols written.
-const ITEMS_EACH: u32 = 12;
+// At most so many grammar symbols are wanted for each symbol of the text, and so many symbols written.
+const WANTED_EACH: u32 = 12;
 
 const WRITTEN_EACH: u32 = 8;
 
 // Room for what is wanted before the first symbol, and for what the end writes.
-const FIRST_ITEMS: u32 = 32;
+const FIRST_WANTED: u32 = 32;
 
 const LAST_WRITTEN: u32 = 16;
 
@@ -58,14 +58,14 @@ pub struct Pass3 {
     last: u32,
     // How many own quantities were declared.
     owns: u32,
-    // The identifier that is held and may be a label.
+    // The identifier behind the lookahead that may be a label.
     name: Option<Symbol>,
     // Whether the fault was found. Nothing is written after it.
     stopped: bool,
 }
 
 // The number of an identifier; other symbols have none.
-#[tactic(auto, using(crate::proofs::Loads::number_small))]
+#[tactic(auto, using(crate::proofs::Potentials::number_small))]
 fn name_number(s: Symbol) -> u64
     requires symbol { IsSymbol s }
     ensures small { result < 2 ^ 40 }
@@ -93,7 +93,7 @@ fn symbol_of(mark: Mark, line: u32) -> Symbol
 }
 
 // A symbol in a role.
-#[tactic(auto, using(crate::proofs::Loads::role_letter, crate::proofs::Loads::small_number))]
+#[tactic(auto, using(crate::proofs::Potentials::role_letter, crate::proofs::Potentials::small_number))]
 fn in_role(role: Role, s: Symbol) -> Symbol
     requires symbol { IsSymbol s }
     ensures value { result ≡ as_role role s }
@@ -137,8 +137,8 @@ impl Pass3 {
         ensures steps { PreservesInvariant self.old self.new (tables_model tables.old) (tables_model tables.new) }
         ensures stays { self.old.stopped ≡ true
             → (self.new.stopped ≡ true) × ((tables_model tables.new).faults ≡ (tables_model tables.old).faults) }
-        ensures told { self.old.stopped ≡ false
-            → (tables_model tables.new).faults ≡ faults_of self.new.stopped self.old.read s.line }
+        ensures told { self.old.stopped ≡ false → (tables_model tables.new).faults
+            ≡ faults_of self.new.stopped self.old.read s.line }
         ensures follows { self.old.stopped ≡ false → IsBare s → StackInvariant (tables_model tables.old)
             → Follows self.new.stopped s (tables_model tables.old) (tables_model tables.new) }
         ensures silent { self.old.stopped ≡ true → ready_by (tables_model tables.new) ≡ ready_by (tables_model tables.old) }
@@ -206,7 +206,7 @@ impl Pass3 {
         });
     }
 
-    // A rule takes the symbol.
+    // A production takes the symbol.
     fn expand(&mut self, production: Production, left: u64, s: Symbol, tables: &mut Tables)
         requires room { HasRoom (price production) 12 self.old (tables_model tables.old) }
         requires small { left < 2 ^ 32 }
@@ -226,8 +226,8 @@ impl Pass3 {
         self.last = s.line;
     }
 
-    // Writes what an item that is passed writes: a mark, or what was held for it. Tells whether a construct was opened
-    // before this symbol, and has none.
+    // Writes what is written where a grammar symbol is nothing: a mark, or the lookahead. Tells whether a construct was
+    // opened before this symbol, and has none.
     fn write_epsilon(
         &mut self,
         item: GrammarSymbol,
@@ -237,11 +237,11 @@ impl Pass3 {
     ) -> bool
         requires room { HasRoom (credit_of item) 0 self.old (tables_model tables.old) }
         requires here { here < 2 ^ 24 }
-        ensures preserves { PreservesStack (credit_of item) 0 self.old self.new (tables_model tables.old)
-            (tables_model tables.new) }
+        ensures preserves { PreservesStack (credit_of item) 0
+            self.old self.new (tables_model tables.old) (tables_model tables.new) }
         ensures opened { result ≡ opened_by (mark_of item) opened }
-        ensures wrote { RefinesEpsilon item here opened result self.old (tables_model tables.old) self.new
-            (tables_model tables.new) }
+        ensures wrote { RefinesEpsilon item here opened result
+            self.old (tables_model tables.old) self.new (tables_model tables.new) }
     {
         if let Some(mark) = item.mark() {
             return self.write_mark(mark, here, opened, tables);
@@ -286,15 +286,15 @@ impl Pass3 {
         }
     }
 
-    // Does with the symbol what the acts tell, in order.
+    // Does with the symbol what the actions tell, in order.
     fn perform_all(&mut self, actions: &[Action], s: Symbol, tables: &mut Tables)
         requires room { HasRoom (costs actions.now) 0 self.old (tables_model tables.old) }
         requires symbol { IsFit 2 self.old.bytes s }
         requires owns { self.old.owns + costs actions.now < 2 ^ 32 }
-        ensures preserves { PreservesStack (costs actions.now) (costs actions.now) self.old self.new (tables_model tables.old)
-            (tables_model tables.new) }
-        ensures wrote { RefinesWriting self.old (tables_model tables.old) self.new (tables_model tables.new)
-            (actions_on actions.now s (writer_state_in self.old (tables_model tables.old))) }
+        ensures preserves { PreservesStack (costs actions.now) (costs actions.now)
+            self.old self.new (tables_model tables.old) (tables_model tables.new) }
+        ensures wrote { RefinesWriting (actions_on actions.now s)
+            self.old (tables_model tables.old) self.new (tables_model tables.new) }
     {
         for action in actions {
             self.perform(*action, s, tables);
@@ -305,10 +305,9 @@ impl Pass3 {
         requires room { HasRoom (cost_of action) 0 self.old (tables_model tables.old) }
         requires symbol { IsFit 2 self.old.bytes s }
         requires owns { self.old.owns + cost_of action < 2 ^ 32 }
-        ensures preserves { PreservesStack (cost_of action) (cost_of action) self.old self.new (tables_model tables.old)
-            (tables_model tables.new) }
-        ensures wrote { RefinesWriting self.old (tables_model tables.old) self.new (tables_model tables.new)
-            (action_on action s (writer_state_in self.old (tables_model tables.old))) }
+        ensures preserves { PreservesStack (cost_of action) (cost_of action)
+            self.old self.new (tables_model tables.old) (tables_model tables.new) }
+        ensures wrote { RefinesWriting (action_on action s) self.old (tables_model tables.old) self.new (tables_model tables.new) }
     {
         match action {
             Action::Open(construct) => self.open_before(construct, s.line, tables),
@@ -327,10 +326,10 @@ impl Pass3 {
     fn write(&mut self, s: Symbol, tables: &mut Tables)
         requires room { HasRoom (potential_of 3 s.tag) 0 self.old (tables_model tables.old) }
         requires fit { IsFit 3 self.old.bytes s }
-        ensures preserves { PreservesStack (potential_of 3 s.tag) 0 self.old self.new (tables_model tables.old)
-            (tables_model tables.new) }
-        ensures wrote { RefinesWriting self.old (tables_model tables.old) self.new (tables_model tables.new)
-            (λ next. s ∷ next (writer_state_in self.old (tables_model tables.old))) }
+        ensures preserves { PreservesStack (potential_of 3 s.tag) 0
+            self.old self.new (tables_model tables.old) (tables_model tables.new) }
+        ensures wrote { RefinesWriting (λ c next. s ∷ next c)
+            self.old (tables_model tables.old) self.new (tables_model tables.new) }
     {
         ready(tables, s);
     }
@@ -338,33 +337,31 @@ impl Pass3 {
     fn add_lookahead(&mut self, s: Symbol, tables: &mut Tables)
         requires room { HasRoom (potential_of 3 s.tag) 0 self.old (tables_model tables.old) }
         requires fit { IsFit 3 self.old.bytes s }
-        ensures preserves { PreservesStack (potential_of 3 s.tag) 0 self.old self.new (tables_model tables.old)
-            (tables_model tables.new) }
-        ensures wrote { RefinesWriting self.old (tables_model tables.old) self.new (tables_model tables.new)
-            (action_on Lookahead s (writer_state_in self.old (tables_model tables.old))) }
+        ensures preserves { PreservesStack (potential_of 3 s.tag) 0
+            self.old self.new (tables_model tables.old) (tables_model tables.new) }
+        ensures wrote { RefinesWriting (action_on Lookahead s)
+            self.old (tables_model tables.old) self.new (tables_model tables.new) }
     {
         add_lookahead(tables, s);
     }
 
-    // Makes all that is held ready.
+    // Makes the lookahead ready.
     fn write_lookahead(&mut self, tables: &mut Tables)
         requires room { HasRoom 0 0 self.old (tables_model tables.old) }
         ensures preserves { PreservesStack 0 0 self.old self.new (tables_model tables.old) (tables_model tables.new) }
-        ensures wrote { RefinesWriting self.old (tables_model tables.old) self.new (tables_model tables.new)
-            (write_lookahead (writer_state_in self.old (tables_model tables.old))) }
+        ensures wrote { RefinesWriting write_lookahead self.old (tables_model tables.old) self.new (tables_model tables.new) }
     {
         ready_all(tables, self.name);
         self.name = None;
     }
 
-    // Opens a construct before the first symbol that is held, or at this line.
+    // Opens a construct before the lookahead, or at this line.
     fn open_before(&mut self, construct: Construct, line: u32, tables: &mut Tables)
         requires room { HasRoom 1 0 self.old (tables_model tables.old) }
         requires line { line < 2 ^ 24 }
         ensures preserves { PreservesStack 1 0 self.old self.new (tables_model tables.old) (tables_model tables.new) }
-        ensures wrote { RefinesWriting self.old (tables_model tables.old) self.new (tables_model tables.new)
-            (λ next. mark_symbol (Open construct) (first_line (lookahead_by (tables_model tables.old)) self.old.name line)
-            ∷ next (writer_state_in self.old (tables_model tables.old))) }
+        ensures wrote { RefinesWriting (λ c next. mark_symbol (Open construct) (first_line c.lookahead c.name line) ∷ next c)
+            self.old (tables_model tables.old) self.new (tables_model tables.new) }
     {
         let first = first_line(tables, self.name, line);
         self.write(symbol_of(Mark::Open(construct), first), tables);
@@ -376,9 +373,8 @@ impl Pass3 {
         requires line { line < 2 ^ 24 }
         requires owns { self.old.owns + 1 < 2 ^ 32 }
         ensures preserves { PreservesStack 1 1 self.old self.new (tables_model tables.old) (tables_model tables.new) }
-        ensures wrote { RefinesWriting self.old (tables_model tables.old) self.new (tables_model tables.new)
-            (λ next. sym OwnNumber self.old.owns line
-            ∷ next (with_owns (writer_state_in self.old (tables_model tables.old)) (suc self.old.owns))) }
+        ensures wrote { RefinesWriting (λ c next. sym OwnNumber c.owns line ∷ next (with_owns c (suc c.owns)))
+            self.old (tables_model tables.old) self.new (tables_model tables.new) }
     {
         self.write(
             Symbol::new(Tag::OwnNumber, u64::from(self.owns), line),
@@ -392,8 +388,8 @@ impl Pass3 {
         requires room { HasRoom 5 0 self.old (tables_model tables.old) }
         requires line { line < 2 ^ 24 }
         ensures preserves { PreservesStack 5 0 self.old self.new (tables_model tables.old) (tables_model tables.new) }
-        ensures wrote { RefinesWriting self.old (tables_model tables.old) self.new (tables_model tables.new)
-            (λ next. sym TextEnd self.old.owns line ∷ next (writer_state_in self.old (tables_model tables.old))) }
+        ensures wrote { RefinesWriting (λ c next. sym TextEnd c.owns line ∷ next c)
+            self.old (tables_model tables.old) self.new (tables_model tables.new) }
     {
         self.write(
             Symbol::new(Tag::TextEnd, u64::from(self.owns), line),
@@ -401,13 +397,13 @@ impl Pass3 {
         );
     }
 
-    // Holds the identifier as a label, with the symbol as its colon.
+    // Puts the identifier into the lookahead as a label, with the symbol as its colon.
     fn add_label(&mut self, colon: Symbol, tables: &mut Tables)
         requires room { HasRoom 1 0 self.old (tables_model tables.old) }
         requires symbol { IsFit 2 self.old.bytes colon }
         ensures preserves { PreservesStack 1 0 self.old self.new (tables_model tables.old) (tables_model tables.new) }
-        ensures wrote { RefinesWriting self.old (tables_model tables.old) self.new (tables_model tables.new)
-            (add_label self.old.name colon (writer_state_in self.old (tables_model tables.old))) }
+        ensures wrote { RefinesWriting (λ c next. add_label c.name colon c next)
+            self.old (tables_model tables.old) self.new (tables_model tables.new) }
     {
         if let Some(name) = self.name {
             self.name = None;
@@ -424,7 +420,7 @@ fn open_lists(tables: &mut Tables, bytes: u32)
     requires limit { (tables_model tables.old).limit ≤ 2 ^ 19 }
     ensures { OpensLists bytes (tables_model tables.old) (tables_model tables.new) }
 {
-    tables.list(STACK_WIDTH, ITEMS_EACH * bytes + FIRST_ITEMS);
+    tables.list(STACK_WIDTH, WANTED_EACH * bytes + FIRST_WANTED);
     tables.list(OUTBOX_WIDTH, WRITTEN_EACH * bytes + LAST_WRITTEN);
     tables.list(OUTBOX_WIDTH, WRITTEN_EACH * bytes + LAST_WRITTEN);
 }

@@ -1,11 +1,11 @@
-// The stack of what is wanted next, a list of the tables. The next item is last.
+// The stack of what is wanted next, a list of the tables. The next grammar symbol is last.
 ghost use Rattle.std.specs.Prelude.{◌≡◌, ◌≤◌, ◌<◌, ◌+◌, ◌*◌, ◌/◌, ◌^◌, ◌%◌, ◌∷◌, length, IfSome, Some};
 ghost use Rattle.gier_text.specs.TablesModel.{tables_model};
 ghost use Rattle.gier_grammar.specs.GrammarSymbols.{credit_at, credit_of, credits};
 ghost use Rattle.gier_grammar.specs.Productions.{right_side_of, left_after};
 ghost use Rattle.gier_grammar.specs.declared.grammar_symbol.GrammarSymbol.{GrammarSymbol};
-ghost use Rattle.gier_pass3.specs.Grammar.{StackInvariant, IsAbove, AreAbove, Pops, all_above, item_at, wanted_above};
-ghost use Rattle.gier_pass3.specs.Grammar.{wanted_in, word_of};
+ghost use Rattle.gier_pass3.specs.Grammar.{StackInvariant, IsAbove, AreAbove, Pops, all_above, item_at, wanted_above, wanted_in};
+ghost use Rattle.gier_pass3.specs.Grammar.{word_of};
 ghost use Rattle.gier_pass3.specs.Lists.{ListsInvariant, PreservesQueues, stack_in, depth, credit};
 ghost use Rattle.gier_pass3.specs.Refinement.{PopsStackEntry, entries_in};
 ghost use Rattle.gier_grammar.specs.StackEntries.{above, entry};
@@ -16,10 +16,10 @@ use gier_text::Tables;
 /// The list that is the stack.
 pub const STACK: u8 = 0;
 
-/// How many words an item takes.
+/// How many words an entry takes.
 pub const STACK_WIDTH: u8 = 1;
 
-// What the number of pairs of constants that are left is multiplied by in an item's word.
+// What the number of pairs of constants that are left is multiplied by in an entry's word.
 const LEFT: u64 = 256;
 
 // How many pairs of constants a segment of own arrays may have behind the first.
@@ -30,8 +30,8 @@ fn unfold(word: u64) -> Option<StackEntry>
     requires { word < 2 ^ 40 }
     ensures credit { IfSome result (λ wanted. credit_of wanted.symbol ≡ credit_at (word % 256)) }
     ensures small { IfSome result (λ wanted. wanted.left < 2 ^ 32) }
-    ensures wanted { (item : GrammarSymbol) → item_at (word % 256) ≡ Some item
-        → result ≡ Some (record { symbol = item; left = word / 256 }) }
+    ensures wanted { (item : GrammarSymbol) → item_at (word % 256) ≡ Some item → result
+        ≡ Some (record { symbol = item; left = word / 256 }) }
 {
     match GrammarSymbol::of(word % LEFT) {
         Some(item) => Some(StackEntry {
@@ -42,13 +42,13 @@ fn unfold(word: u64) -> Option<StackEntry>
     }
 }
 
-/// Takes the next item away, or gives None where the stack is empty.
+/// Takes the next entry away, or gives None where the stack is empty.
 pub fn pop(tables: &mut Tables) -> Option<StackEntry>
     requires lists { ListsInvariant (tables_model tables.old) }
     ensures queues { PreservesQueues (tables_model tables.old) (tables_model tables.new) }
     ensures less { IfSome result (λ wanted. depth (tables_model tables.new) < depth (tables_model tables.old)) }
-    ensures paid { IfSome result (λ wanted. credit (tables_model tables.new) + credit_of wanted.symbol
-        ≤ credit (tables_model tables.old)) }
+    ensures paid { IfSome result
+        (λ wanted. credit (tables_model tables.new) + credit_of wanted.symbol ≤ credit (tables_model tables.old)) }
     ensures small { IfSome result (λ wanted. wanted.left < 2 ^ 32) }
     ensures depth { depth (tables_model tables.new) ≤ depth (tables_model tables.old) }
     ensures credit { credit (tables_model tables.new) ≤ credit (tables_model tables.old) }
@@ -66,8 +66,8 @@ pub fn pop(tables: &mut Tables) -> Option<StackEntry>
     unfold(word)
 }
 
-/// Puts what the rule wants on the stack. `left` is how many pairs of constants could follow where it was applied.
-#[tactic(auto, using(crate::proofs::Credit::credits_back))]
+/// Puts the right side of the production on the stack. `left` is how many pairs of constants could follow where it was applied.
+#[tactic(auto, using(crate::proofs::Credits::credits_back))]
 pub fn push_right_side(tables: &mut Tables, production: Production, left: u64)
     requires lists { ListsInvariant (tables_model tables.old) }
     requires room { depth (tables_model tables.old) + length (right_side_of production)
@@ -93,7 +93,7 @@ pub fn push_right_side(tables: &mut Tables, production: Production, left: u64)
     }
 }
 
-// How many pairs of constants may follow what the rule wants.
+// How many pairs of constants may follow what the production wants.
 fn left_after(production: Production, left: u64) -> u64
     requires { left < 2 ^ 32 }
     ensures value { result ≡ left_after production left }
@@ -106,7 +106,7 @@ fn left_after(production: Production, left: u64) -> u64
     }
 }
 
-// The word that stands for an item.
+// The word that stands for a grammar symbol.
 fn fold(item: GrammarSymbol, left: u64) -> u64
     requires { left < 2 ^ 32 }
     ensures small { result < 2 ^ 40 }
@@ -121,7 +121,7 @@ fn fold(item: GrammarSymbol, left: u64) -> u64
     item.number() + beside * LEFT
 }
 
-/// Puts an item on the stack.
+/// Puts a grammar symbol on the stack.
 pub fn push(tables: &mut Tables, item: GrammarSymbol, left: u64)
     requires lists { ListsInvariant (tables_model tables.old) }
     requires room { depth (tables_model tables.old) < (stack_in (tables_model tables.old)).capacity }

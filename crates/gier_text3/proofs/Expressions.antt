@@ -10,7 +10,7 @@ use Rattle.gier_tree.specs.Spell.{ident, adding_tag, multiplying_tag, comparing_
 use Rattle.gier_tree.specs.Lines.{first_expr, first_simple, first_implication, first_disjunction, first_conjunction, first_negation, first_relation, first_arithmetic, first_term, first_factor, first_primary, last_expr, last_simple, last_implication, last_disjunction, last_conjunction, last_negation, last_relation, last_arithmetic, last_term, last_factor, last_primary, last_call, last_element, last_actual}
 use Rattle.gier_tree.specs.Written.{Text, Marked, Expected, opens, shuts, leading_tag, name_alone, actual_by, called_alone, is_called_as, further_expected, expected_kinds, text_name, text_expr, text_simple, text_implication, text_disjunction, text_conjunction, text_negation, text_relation, text_arithmetic, text_term, text_factor, text_primary, text_call, text_element, text_actual, text_actuals, text_subscripts}
 use Rattle.gier_tree.specs.Trees.{Name, Byte, Expr, OneSimple, IfExpr, Simple, OneImplication, Equivalent, Implication, OneDisjunction, Implies, Disjunction, OneConjunction, Either, Conjunction, OneNegation, Both, Negation, OneRelation, Negated, Relation, OneArithmetic, Compared, Arithmetic, OneTerm, Signed, Summed, Term, OneFactor, Multiplied, Factor, OnePrimary, Raised, Primary, Numeral, Logical, Bracketed, OneCall, OneElement, Call, Alone, WithActuals, Element, Subscripted, Actual, OneExpr, AString, Actuals, NoActuals, MoreActuals, Exprs, NoExprs, MoreExprs}
-use Rattle.gier_grammar.specs.declared.grammar_symbol.GrammarSymbol.TheVariants.{Expression as GExpression, Simple as GSimple, Then as GThen, Else as GElse, ShutConditionalExpression as GShutConditionalExpression, RightParenthesis as GRightParenthesis, OpenActual as GOpenActual, Actual as GActual, ShutActual as GShutActual, ActualTail as GActualTail, OpenSubscript as GOpenSubscript, ShutSubscript as GShutSubscript, SubscriptTail as GSubscriptTail, StringRest as GStringRest, MayPower as GMayPower, MayTimes as GMayTimes, MaySum as GMaySum, MayRelation as GMayRelation, MayAnd as GMayAnd, MayOr as GMayOr, MayImplication as GMayImplication, MayEquivalence as GMayEquivalence}
+use Rattle.gier_grammar.specs.declared.grammar_symbol.GrammarSymbol.TheVariants.{Expression as GExpression, Simple as GSimple, Then as GThen, Else as GElse, ShutConditionalExpression, RightParenthesis as GRightParenthesis, OpenActual, Actual as GActual, ShutActual, ActualTail as GActualTail, OpenSubscript, ShutSubscript, SubscriptTail as GSubscriptTail, StringRest as GStringRest, MayPower as GMayPower, MayTimes as GMayTimes, MaySum as GMaySum, MayRelation as GMayRelation, MayAnd as GMayAnd, MayOr as GMayOr, MayImplication as GMayImplication, MayEquivalence as GMayEquivalence}
 use Rattle.gier_grammar.specs.declared.stack_entry.StackEntry.{StackEntry}
 use Rattle.gier_grammar.specs.StackEntries.{entry}
 use Rattle.gier_text3.specs.PurePass.{pass3, pass3_from}
@@ -106,10 +106,10 @@ mutual
   expr os p u st (OneSimple s) k op l n e = simple os p (start_of u st) st s k op l n (whole_behind u st) (whole_not u st) e.lower ∙ ap (text_simple (marked os) p s) (e.skips st _ n)
   expr os p u st (IfExpr i c m s j x) k op l n e =
       take_if u st i (spell_expr c (word Then m ∷ spell_simple s (word Else j ∷ spell_expr x k))) op l n
-      ∙ ap (λ w. opens MConditional i ∷ word If i ∷ w) (expr os p WExpression (entry GThen 0 ∷ entry GSimple 0 ∷ entry GElse 0 ∷ entry GExpression 0 ∷ entry GShutConditionalExpression 0 ∷ st) c (word Then m ∷ spell_simple s (word Else j ∷ spell_expr x k)) false i n (ends_then m _)
-      ∙ ap (λ w. text_expr (marked os) p c (word Then m ∷ w)) (simple os p (AtSimple (entry GElse 0 ∷ entry GExpression 0 ∷ entry GShutConditionalExpression 0 ∷ st)) (entry GElse 0 ∷ entry GExpression 0 ∷ entry GShutConditionalExpression 0 ∷ st) s (word Else j ∷ spell_expr x k) false m n refl refl (ends_else j _).lower
-      ∙ ap (text_simple (marked os) p s) ((ends_else j (spell_expr x k)).skips (entry GElse 0 ∷ entry GExpression 0 ∷ entry GShutConditionalExpression 0 ∷ st) (last_simple s) n
-      ∙ ap (λ w. word Else j ∷ w) (expr os p WExpression (entry GShutConditionalExpression 0 ∷ st) x k false j n e
+      ∙ ap (λ w. opens MConditional i ∷ word If i ∷ w) (expr os p WExpression (entry GThen 0 ∷ entry GSimple 0 ∷ entry GElse 0 ∷ entry GExpression 0 ∷ entry ShutConditionalExpression 0 ∷ st) c (word Then m ∷ spell_simple s (word Else j ∷ spell_expr x k)) false i n (ends_then m _)
+      ∙ ap (λ w. text_expr (marked os) p c (word Then m ∷ w)) (simple os p (AtSimple (entry GElse 0 ∷ entry GExpression 0 ∷ entry ShutConditionalExpression 0 ∷ st)) (entry GElse 0 ∷ entry GExpression 0 ∷ entry ShutConditionalExpression 0 ∷ st) s (word Else j ∷ spell_expr x k) false m n refl refl (ends_else j _).lower
+      ∙ ap (text_simple (marked os) p s) ((ends_else j (spell_expr x k)).skips (entry GElse 0 ∷ entry GExpression 0 ∷ entry ShutConditionalExpression 0 ∷ st) (last_simple s) n
+      ∙ ap (λ w. word Else j ∷ w) (expr os p WExpression (entry ShutConditionalExpression 0 ∷ st) x k false j n e
       ∙ ap (text_expr (marked os) p x) (shut_conditional_expression k st (at (last_expr x) n) e.lower.lower.lower.lower.lower.lower.lower.lower.comes)))))
 
   pub simple : (os : List Name) (p : Places) (a : Start) (st : List StackEntry) (x : Simple) (k : List Symbol) (op : Bool) (l n : ℕ) → behind a ≡ entry GMayPower 0 ∷ entry GMayTimes 0 ∷ entry GMaySum 0 ∷ entry GMayRelation 0 ∷ entry GMayAnd 0 ∷ entry GMayOr 0 ∷ entry GMayImplication 0 ∷ entry GMayEquivalence 0 ∷ st → takes_not a ≡ true → EndsImplication k → pass3_from op (spell_simple x k) (before a) (at l n) ≡ text_simple (marked os) p x (pass3 k (entry GMayEquivalence 0 ∷ st) (at (last_simple x) n))
@@ -170,14 +170,14 @@ mutual
   primary os p a (OneElement (Subscripted x i y ys m)) k op l n e =
       take_name a x (word LeftBracket i ∷ spell_expr y (spell_exprs ys (word RightBracket m ∷ k))) op l n
       ∙ ap (λ w. ident x ∷ w) (take_subscripts a i (spell_expr y (spell_exprs ys (word RightBracket m ∷ k))) x.line n
-      ∙ ap (λ w. word LeftBracket i ∷ w) ((open_subscript (spell_expr y (spell_exprs ys (word RightBracket m ∷ k))) (first_expr y) false (entry GExpression 0 ∷ entry GShutSubscript 0 ∷ entry GSubscriptTail 0 ∷ after_element a) (at i n) (begins_expr y (spell_exprs ys (word RightBracket m ∷ k))) ∙ ap (λ w. opens MSubscript (first_expr y) ∷ w) (expr os p WExpression (entry GShutSubscript 0 ∷ entry GSubscriptTail 0 ∷ after_element a) y (spell_exprs ys (word RightBracket m ∷ k)) true i n (exprs_end ys m k) ∙ ap (text_expr (marked os) p y) (shut_subscript (spell_exprs ys (word RightBracket m ∷ k)) (entry GSubscriptTail 0 ∷ after_element a) (at (last_expr y) n) (exprs_end ys m k).lower.lower.lower.lower.lower.lower.lower.lower.comes ∙ ap (λ w. shuts MSubscript (last_expr y) ∷ w) (subscripts os p ys m (after_element a) k (last_expr y) n))))
+      ∙ ap (λ w. word LeftBracket i ∷ w) ((open_subscript (spell_expr y (spell_exprs ys (word RightBracket m ∷ k))) (first_expr y) false (entry GExpression 0 ∷ entry ShutSubscript 0 ∷ entry GSubscriptTail 0 ∷ after_element a) (at i n) (begins_expr y (spell_exprs ys (word RightBracket m ∷ k))) ∙ ap (λ w. opens MSubscript (first_expr y) ∷ w) (expr os p WExpression (entry ShutSubscript 0 ∷ entry GSubscriptTail 0 ∷ after_element a) y (spell_exprs ys (word RightBracket m ∷ k)) true i n (exprs_end ys m k) ∙ ap (text_expr (marked os) p y) (shut_subscript (spell_exprs ys (word RightBracket m ∷ k)) (entry GSubscriptTail 0 ∷ after_element a) (at (last_expr y) n) (exprs_end ys m k).lower.lower.lower.lower.lower.lower.lower.lower.comes ∙ ap (λ w. shuts MSubscript (last_expr y) ∷ w) (subscripts os p ys m (after_element a) k (last_expr y) n))))
       ∙ ap (λ w. opens MSubscript (first_expr y) ∷ text_expr (marked os) p y (shuts MSubscript (last_expr y) ∷ text_subscripts (marked os) p ys (word RightBracket m ∷ w))) (element_ends a k m n e)))
 
-  pub actual : (os : List Name) (p : Places) (d : Expected) (x : Actual) (k : List Symbol) (st : List StackEntry) (l n : ℕ) → EndsExpr k → pass3 (spell_actual x k) (entry GOpenActual 0 ∷ entry GActual 0 ∷ entry GShutActual 0 ∷ st) (at l n) ≡ text_actual (marked os) p d x (pass3 k st (at (last_actual x) n))
+  pub actual : (os : List Name) (p : Places) (d : Expected) (x : Actual) (k : List Symbol) (st : List StackEntry) (l n : ℕ) → EndsExpr k → pass3 (spell_actual x k) (entry OpenActual 0 ∷ entry GActual 0 ∷ entry ShutActual 0 ∷ st) (at l n) ≡ text_actual (marked os) p d x (pass3 k st (at (last_actual x) n))
   actual os p d (OneExpr x) k st l n e =
-      open_actual (spell_expr x k) (first_expr x) false (entry GActual 0 ∷ entry GShutActual 0 ∷ st) (at l n) (begins_expr x k)
-      ∙ ap (λ w. opens MActual (first_expr x) ∷ w) (expr os p WActual (entry GShutActual 0 ∷ st) x k true l n e ∙ ap (text_expr (marked os) p x) (shut_actual k st (at (last_expr x) n) e.lower.lower.lower.lower.lower.lower.lower.lower.comes) ∙ back (actual_same os p d x _))
-  actual os p d (AString i bs m) k st l n e = ap (λ w. opens MActual i ∷ word StringBegin i ∷ w) (bytes bs m k (entry GShutActual 0 ∷ st) i n ∙ ap (λ w. spell_bytes bs (word StringEnd m ∷ w)) (shut_actual k st (at m n) e.lower.lower.lower.lower.lower.lower.lower.lower.comes))
+      open_actual (spell_expr x k) (first_expr x) false (entry GActual 0 ∷ entry ShutActual 0 ∷ st) (at l n) (begins_expr x k)
+      ∙ ap (λ w. opens MActual (first_expr x) ∷ w) (expr os p WActual (entry ShutActual 0 ∷ st) x k true l n e ∙ ap (text_expr (marked os) p x) (shut_actual k st (at (last_expr x) n) e.lower.lower.lower.lower.lower.lower.lower.lower.comes) ∙ back (actual_same os p d x _))
+  actual os p d (AString i bs m) k st l n e = ap (λ w. opens MActual i ∷ word StringBegin i ∷ w) (bytes bs m k (entry ShutActual 0 ∷ st) i n ∙ ap (λ w. spell_bytes bs (word StringEnd m ∷ w)) (shut_actual k st (at m n) e.lower.lower.lower.lower.lower.lower.lower.lower.comes))
 
   pub actuals : (os : List Name) (p : Places) (d : Expected) (more : Actuals) (m : ℕ) (st : List StackEntry) (k : List Symbol) (l n : ℕ) → pass3 (spell_actuals more (word RightParenthesis m ∷ k)) (entry GActualTail 0 ∷ st) (at l n) ≡ text_actuals (marked os) p d more (word RightParenthesis m ∷ pass3 k st (at m n))
   actuals os p d NoActuals m st k l n = refl
@@ -185,16 +185,16 @@ mutual
 
   pub subscripts : (os : List Name) (p : Places) (xs : Exprs) (m : ℕ) (st : List StackEntry) (k : List Symbol) (l n : ℕ) → pass3 (spell_exprs xs (word RightBracket m ∷ k)) (entry GSubscriptTail 0 ∷ st) (at l n) ≡ text_subscripts (marked os) p xs (word RightBracket m ∷ pass3 k st (at m n))
   subscripts os p NoExprs m st k l n = refl
-  subscripts os p (MoreExprs i x xs) m st k l n = ap (λ w. word Comma i ∷ w) (open_subscript (spell_expr x (spell_exprs xs (word RightBracket m ∷ k))) (first_expr x) false (entry GExpression 0 ∷ entry GShutSubscript 0 ∷ entry GSubscriptTail 0 ∷ st) (at i n) (begins_expr x (spell_exprs xs (word RightBracket m ∷ k))) ∙ ap (λ w. opens MSubscript (first_expr x) ∷ w) (expr os p WExpression (entry GShutSubscript 0 ∷ entry GSubscriptTail 0 ∷ st) x (spell_exprs xs (word RightBracket m ∷ k)) true i n (exprs_end xs m k) ∙ ap (text_expr (marked os) p x) (shut_subscript (spell_exprs xs (word RightBracket m ∷ k)) (entry GSubscriptTail 0 ∷ st) (at (last_expr x) n) (exprs_end xs m k).lower.lower.lower.lower.lower.lower.lower.lower.comes ∙ ap (λ w. shuts MSubscript (last_expr x) ∷ w) (subscripts os p xs m (st) k (last_expr x) n))))
+  subscripts os p (MoreExprs i x xs) m st k l n = ap (λ w. word Comma i ∷ w) (open_subscript (spell_expr x (spell_exprs xs (word RightBracket m ∷ k))) (first_expr x) false (entry GExpression 0 ∷ entry ShutSubscript 0 ∷ entry GSubscriptTail 0 ∷ st) (at i n) (begins_expr x (spell_exprs xs (word RightBracket m ∷ k))) ∙ ap (λ w. opens MSubscript (first_expr x) ∷ w) (expr os p WExpression (entry ShutSubscript 0 ∷ entry GSubscriptTail 0 ∷ st) x (spell_exprs xs (word RightBracket m ∷ k)) true i n (exprs_end xs m k) ∙ ap (text_expr (marked os) p x) (shut_subscript (spell_exprs xs (word RightBracket m ∷ k)) (entry GSubscriptTail 0 ∷ st) (at (last_expr x) n) (exprs_end xs m k).lower.lower.lower.lower.lower.lower.lower.lower.comes ∙ ap (λ w. shuts MSubscript (last_expr x) ∷ w) (subscripts os p xs m (st) k (last_expr x) n))))
 
 -- actuals up to their `)`, and subscripts up to their `]`, behind an identifier
-pub called : (os : List Name) (p : Places) (d : Expected) (x : Actual) (more : Actuals) (m : ℕ) (st : List StackEntry) (k : List Symbol) (l n : ℕ) → pass3 (spell_actual x (spell_actuals more (word RightParenthesis m ∷ k))) (entry GOpenActual 0 ∷ entry GActual 0 ∷ entry GShutActual 0 ∷ entry GActualTail 0 ∷ st) (at l n) ≡ text_actual (marked os) p d x (text_actuals (marked os) p (further_expected d) more (word RightParenthesis m ∷ pass3 k st (at m n)))
+pub called : (os : List Name) (p : Places) (d : Expected) (x : Actual) (more : Actuals) (m : ℕ) (st : List StackEntry) (k : List Symbol) (l n : ℕ) → pass3 (spell_actual x (spell_actuals more (word RightParenthesis m ∷ k))) (entry OpenActual 0 ∷ entry GActual 0 ∷ entry ShutActual 0 ∷ entry GActualTail 0 ∷ st) (at l n) ≡ text_actual (marked os) p d x (text_actuals (marked os) p (further_expected d) more (word RightParenthesis m ∷ pass3 k st (at m n)))
 called os p d x more m st k l n = actual os p d x (spell_actuals more (word RightParenthesis m ∷ k)) (entry GActualTail 0 ∷ st) l n (actuals_end more m k) ∙ ap (text_actual (marked os) p d x) (actuals os p (further_expected d) more m st k _ n)
 
-pub subscripted : (os : List Name) (p : Places) (x : Expr) (xs : Exprs) (m : ℕ) (st : List StackEntry) (k : List Symbol) (l n : ℕ) → pass3 (spell_expr x (spell_exprs xs (word RightBracket m ∷ k))) (entry GOpenSubscript 0 ∷ entry GExpression 0 ∷ entry GShutSubscript 0 ∷ entry GSubscriptTail 0 ∷ st) (at l n) ≡ opens MSubscript (first_expr x) ∷ text_expr (marked os) p x (shuts MSubscript (last_expr x) ∷ text_subscripts (marked os) p xs (word RightBracket m ∷ pass3 k st (at m n)))
+pub subscripted : (os : List Name) (p : Places) (x : Expr) (xs : Exprs) (m : ℕ) (st : List StackEntry) (k : List Symbol) (l n : ℕ) → pass3 (spell_expr x (spell_exprs xs (word RightBracket m ∷ k))) (entry OpenSubscript 0 ∷ entry GExpression 0 ∷ entry ShutSubscript 0 ∷ entry GSubscriptTail 0 ∷ st) (at l n) ≡ opens MSubscript (first_expr x) ∷ text_expr (marked os) p x (shuts MSubscript (last_expr x) ∷ text_subscripts (marked os) p xs (word RightBracket m ∷ pass3 k st (at m n)))
 subscripted os p x xs m st k l n =
     let w = spell_exprs xs (word RightBracket m ∷ k) in
-    open_subscript (spell_expr x w) (first_expr x) false (entry GExpression 0 ∷ entry GShutSubscript 0 ∷ entry GSubscriptTail 0 ∷ st) (at l n) (begins_expr x w)
-    ∙ ap (λ w. opens MSubscript (first_expr x) ∷ w) (expr os p WExpression (entry GShutSubscript 0 ∷ entry GSubscriptTail 0 ∷ st) x w true l n (exprs_end xs m k)
+    open_subscript (spell_expr x w) (first_expr x) false (entry GExpression 0 ∷ entry ShutSubscript 0 ∷ entry GSubscriptTail 0 ∷ st) (at l n) (begins_expr x w)
+    ∙ ap (λ w. opens MSubscript (first_expr x) ∷ w) (expr os p WExpression (entry ShutSubscript 0 ∷ entry GSubscriptTail 0 ∷ st) x w true l n (exprs_end xs m k)
     ∙ ap (text_expr (marked os) p x) (shut_subscript w (entry GSubscriptTail 0 ∷ st) (at (last_expr x) n) (exprs_end xs m k).lower.lower.lower.lower.lower.lower.lower.lower.comes
     ∙ ap (λ w. shuts MSubscript (last_expr x) ∷ w) (subscripts os p xs m st k (last_expr x) n)))

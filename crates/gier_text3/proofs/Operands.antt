@@ -9,12 +9,12 @@ use Rattle.gier_tree.specs.declared.construct.Construct.TheVariants.{Program as 
 use Rattle.gier_tree.specs.Spell.{ident, adding_tag, multiplying_tag, comparing_tag, logical_tag}
 use Rattle.gier_tree.specs.Written.{opens, shuts, leading_tag}
 use Rattle.gier_tree.specs.Trees.{Name, Adding, Add, Subtract, Multiplying, Multiply, Divide, Comparing, LessThan, AtMost, EqualTo, AtLeast, MoreThan, Unequal}
-use Rattle.gier_grammar.specs.declared.grammar_symbol.GrammarSymbol.TheVariants.{OpenActual as GOpenActual, ShutActual as GShutActual, OpenSubscript as GOpenSubscript, ShutSubscript as GShutSubscript, OpenBound as GOpenBound, ShutBound as GShutBound, OpenSwitchElement as GOpenSwitchElement, ShutSwitchElement as GShutSwitchElement, OpenForElement as GOpenForElement, ShutForElement as GShutForElement, ShutConditionalExpression as GShutConditionalExpression, ShutGoTo as GShutGoTo, ShutConditionalStatement as GShutConditionalStatement, ShutForStatement as GShutForStatement, ShutControlledStatement as GShutControlledStatement, OpenControlledStatement as GOpenControlledStatement, OpenArraySegment as GOpenArraySegment, ShutArraySegment as GShutArraySegment, OpenProcedureBody as GOpenProcedureBody, ShutProcedureBody as GShutProcedureBody, ShutProcedureDeclaration as GShutProcedureDeclaration, ShutSwitchDeclaration as GShutSwitchDeclaration, ShutTypeDeclaration as GShutTypeDeclaration, ShutBlock as GShutBlock, ShutCompound as GShutCompound, ShutProgram as GShutProgram, OpenProgram as GOpenProgram, Expression as GExpression, Simple as GSimple, Actual as GActual, Right as GRight, Then as GThen, Else as GElse, MayNot as GMayNot, MaySign as GMaySign, Primary as GPrimary, MayPower as GMayPower, MayTimes as GMayTimes, MaySum as GMaySum, MayRelation as GMayRelation, MayAnd as GMayAnd, MayOr as GMayOr, MayImplication as GMayImplication, MayEquivalence as GMayEquivalence, MayPart as GMayPart, SubscriptTail as GSubscriptTail, StringRest as GStringRest, ActualTail as GActualTail, RightParenthesis as GRightParenthesis, AfterRightName as GAfterRightName, AfterRightElement as GAfterRightElement}
+use Rattle.gier_grammar.specs.declared.grammar_symbol.GrammarSymbol.TheVariants.{OpenActual, ShutActual, OpenSubscript, ShutSubscript, OpenBound, ShutBound, OpenSwitchElement, ShutSwitchElement, OpenForElement, ShutForElement, ShutConditionalExpression, ShutGoTo, ShutConditionalStatement, ShutForStatement, ShutControlledStatement, OpenControlledStatement, OpenArraySegment, ShutArraySegment, OpenProcedureBody, ShutProcedureBody, ShutProcedureDeclaration, ShutSwitchDeclaration, ShutTypeDeclaration, ShutBlock, ShutCompound, ShutProgram, OpenProgram, Expression as GExpression, Simple as GSimple, Actual as GActual, Right as GRight, Then as GThen, Else as GElse, MayNot as GMayNot, MaySign as GMaySign, Primary as GPrimary, MayPower as GMayPower, MayTimes as GMayTimes, MaySum as GMaySum, MayRelation as GMayRelation, MayAnd as GMayAnd, MayOr as GMayOr, MayImplication as GMayImplication, MayEquivalence as GMayEquivalence, MayPart as GMayPart, SubscriptTail as GSubscriptTail, StringRest as GStringRest, ActualTail as GActualTail, RightParenthesis as GRightParenthesis, AfterRightName as GAfterRightName, AfterRightElement as GAfterRightElement}
 use Rattle.gier_grammar.specs.declared.stack_entry.StackEntry.{StackEntry}
 use Rattle.gier_text3.specs.PurePass.{WriterState, pass3, pass3_from}
 use Rattle.gier_grammar.specs.StackEntries.{entry}
 
--- nothing is held
+-- nothing is looked ahead
 abbrev pub at : (last owns : ℕ) → WriterState
 at l n = record { lookahead = []; name = None; last = l; owns = n }
 
@@ -276,7 +276,7 @@ take_not (AtExpression st) i w op l n h = refl
 take_not (AtActual st) i w op l n h = refl
 take_not (AtRight st) i w op l n h = refl
 
-pub take_actuals : (a : Start) (i : ℕ) (w : List Symbol) (l n : ℕ) → pass3 (word LeftParenthesis i ∷ w) (part a) (at l n) ≡ word LeftParenthesis i ∷ pass3 w (entry GOpenActual 0 ∷ entry GActual 0 ∷ entry GShutActual 0 ∷ entry GActualTail 0 ∷ behind a) (at i n)
+pub take_actuals : (a : Start) (i : ℕ) (w : List Symbol) (l n : ℕ) → pass3 (word LeftParenthesis i ∷ w) (part a) (at l n) ≡ word LeftParenthesis i ∷ pass3 w (entry OpenActual 0 ∷ entry GActual 0 ∷ entry ShutActual 0 ∷ entry GActualTail 0 ∷ behind a) (at i n)
 take_actuals (Inner st) i w l n = refl
 take_actuals (InnerSign st) i w l n = refl
 take_actuals (InnerNot st) i w l n = refl
@@ -285,7 +285,7 @@ take_actuals (AtExpression st) i w l n = refl
 take_actuals (AtActual st) i w l n = refl
 take_actuals (AtRight st) i w l n = refl
 
-pub take_subscripts : (a : Start) (i : ℕ) (w : List Symbol) (l n : ℕ) → pass3 (word LeftBracket i ∷ w) (part a) (at l n) ≡ word LeftBracket i ∷ pass3 w (entry GOpenSubscript 0 ∷ entry GExpression 0 ∷ entry GShutSubscript 0 ∷ entry GSubscriptTail 0 ∷ after_element a) (at i n)
+pub take_subscripts : (a : Start) (i : ℕ) (w : List Symbol) (l n : ℕ) → pass3 (word LeftBracket i ∷ w) (part a) (at l n) ≡ word LeftBracket i ∷ pass3 w (entry OpenSubscript 0 ∷ entry GExpression 0 ∷ entry ShutSubscript 0 ∷ entry GSubscriptTail 0 ∷ after_element a) (at i n)
 take_subscripts (Inner st) i w l n = refl
 take_subscripts (InnerSign st) i w l n = refl
 take_subscripts (InnerNot st) i w l n = refl
@@ -342,89 +342,89 @@ whole_not WExpression st = refl
 whole_not WActual st = refl
 whole_not WRight st = refl
 
-pub take_if : (u : Whole) (st : List StackEntry) (i : ℕ) (w : List Symbol) (op : Bool) (l n : ℕ) → pass3_from op (word If i ∷ w) (before (start_of u st)) (at l n) ≡ opens CConditionalExpression i ∷ word If i ∷ pass3 w (entry GExpression 0 ∷ entry GThen 0 ∷ entry GSimple 0 ∷ entry GElse 0 ∷ entry GExpression 0 ∷ entry GShutConditionalExpression 0 ∷ st) (at i n)
+pub take_if : (u : Whole) (st : List StackEntry) (i : ℕ) (w : List Symbol) (op : Bool) (l n : ℕ) → pass3_from op (word If i ∷ w) (before (start_of u st)) (at l n) ≡ opens CConditionalExpression i ∷ word If i ∷ pass3 w (entry GExpression 0 ∷ entry GThen 0 ∷ entry GSimple 0 ∷ entry GElse 0 ∷ entry GExpression 0 ∷ entry ShutConditionalExpression 0 ∷ st) (at i n)
 take_if WExpression st i w op l n = refl
 take_if WActual st i w op l n = refl
 take_if WRight st i w op l n = refl
 
 -- marks
-pub open_actual : (k : List Symbol) (line : ℕ) (op : Bool) (st : List StackEntry) (c : WriterState) → Begins k line → pass3_from op k (entry GOpenActual 0 ∷ st) c ≡ opens CActual line ∷ pass3_from true k st c
+pub open_actual : (k : List Symbol) (line : ℕ) (op : Bool) (st : List StackEntry) (c : WriterState) → Begins k line → pass3_from op k (entry OpenActual 0 ∷ st) c ≡ opens CActual line ∷ pass3_from true k st c
 open_actual k line op st c b = rw (b.is) (ap (λ i. opens CActual i ∷ pass3_from true (b.first ∷ b.rest) st c) b.on)
 
-pub shut_actual : (k : List Symbol) (st : List StackEntry) (c : WriterState) → Comes k → pass3 k (entry GShutActual 0 ∷ st) c ≡ shuts CActual c.last ∷ pass3 k st c
+pub shut_actual : (k : List Symbol) (st : List StackEntry) (c : WriterState) → Comes k → pass3 k (entry ShutActual 0 ∷ st) c ≡ shuts CActual c.last ∷ pass3 k st c
 shut_actual k st c b = rw (b.1.1) refl
 
-pub open_subscript : (k : List Symbol) (line : ℕ) (op : Bool) (st : List StackEntry) (c : WriterState) → Begins k line → pass3_from op k (entry GOpenSubscript 0 ∷ st) c ≡ opens CSubscript line ∷ pass3_from true k st c
+pub open_subscript : (k : List Symbol) (line : ℕ) (op : Bool) (st : List StackEntry) (c : WriterState) → Begins k line → pass3_from op k (entry OpenSubscript 0 ∷ st) c ≡ opens CSubscript line ∷ pass3_from true k st c
 open_subscript k line op st c b = rw (b.is) (ap (λ i. opens CSubscript i ∷ pass3_from true (b.first ∷ b.rest) st c) b.on)
 
-pub shut_subscript : (k : List Symbol) (st : List StackEntry) (c : WriterState) → Comes k → pass3 k (entry GShutSubscript 0 ∷ st) c ≡ shuts CSubscript c.last ∷ pass3 k st c
+pub shut_subscript : (k : List Symbol) (st : List StackEntry) (c : WriterState) → Comes k → pass3 k (entry ShutSubscript 0 ∷ st) c ≡ shuts CSubscript c.last ∷ pass3 k st c
 shut_subscript k st c b = rw (b.1.1) refl
 
-pub open_bound : (k : List Symbol) (line : ℕ) (op : Bool) (st : List StackEntry) (c : WriterState) → Begins k line → pass3_from op k (entry GOpenBound 0 ∷ st) c ≡ opens CBound line ∷ pass3_from true k st c
+pub open_bound : (k : List Symbol) (line : ℕ) (op : Bool) (st : List StackEntry) (c : WriterState) → Begins k line → pass3_from op k (entry OpenBound 0 ∷ st) c ≡ opens CBound line ∷ pass3_from true k st c
 open_bound k line op st c b = rw (b.is) (ap (λ i. opens CBound i ∷ pass3_from true (b.first ∷ b.rest) st c) b.on)
 
-pub shut_bound : (k : List Symbol) (st : List StackEntry) (c : WriterState) → Comes k → pass3 k (entry GShutBound 0 ∷ st) c ≡ shuts CBound c.last ∷ pass3 k st c
+pub shut_bound : (k : List Symbol) (st : List StackEntry) (c : WriterState) → Comes k → pass3 k (entry ShutBound 0 ∷ st) c ≡ shuts CBound c.last ∷ pass3 k st c
 shut_bound k st c b = rw (b.1.1) refl
 
-pub open_switch_element : (k : List Symbol) (line : ℕ) (op : Bool) (st : List StackEntry) (c : WriterState) → Begins k line → pass3_from op k (entry GOpenSwitchElement 0 ∷ st) c ≡ opens CSwitchElement line ∷ pass3_from true k st c
+pub open_switch_element : (k : List Symbol) (line : ℕ) (op : Bool) (st : List StackEntry) (c : WriterState) → Begins k line → pass3_from op k (entry OpenSwitchElement 0 ∷ st) c ≡ opens CSwitchElement line ∷ pass3_from true k st c
 open_switch_element k line op st c b = rw (b.is) (ap (λ i. opens CSwitchElement i ∷ pass3_from true (b.first ∷ b.rest) st c) b.on)
 
-pub shut_switch_element : (k : List Symbol) (st : List StackEntry) (c : WriterState) → Comes k → pass3 k (entry GShutSwitchElement 0 ∷ st) c ≡ shuts CSwitchElement c.last ∷ pass3 k st c
+pub shut_switch_element : (k : List Symbol) (st : List StackEntry) (c : WriterState) → Comes k → pass3 k (entry ShutSwitchElement 0 ∷ st) c ≡ shuts CSwitchElement c.last ∷ pass3 k st c
 shut_switch_element k st c b = rw (b.1.1) refl
 
-pub open_for_element : (k : List Symbol) (line : ℕ) (op : Bool) (st : List StackEntry) (c : WriterState) → Begins k line → pass3_from op k (entry GOpenForElement 0 ∷ st) c ≡ opens CForElement line ∷ pass3_from true k st c
+pub open_for_element : (k : List Symbol) (line : ℕ) (op : Bool) (st : List StackEntry) (c : WriterState) → Begins k line → pass3_from op k (entry OpenForElement 0 ∷ st) c ≡ opens CForElement line ∷ pass3_from true k st c
 open_for_element k line op st c b = rw (b.is) (ap (λ i. opens CForElement i ∷ pass3_from true (b.first ∷ b.rest) st c) b.on)
 
-pub shut_for_element : (k : List Symbol) (st : List StackEntry) (c : WriterState) → Comes k → pass3 k (entry GShutForElement 0 ∷ st) c ≡ shuts CForElement c.last ∷ pass3 k st c
+pub shut_for_element : (k : List Symbol) (st : List StackEntry) (c : WriterState) → Comes k → pass3 k (entry ShutForElement 0 ∷ st) c ≡ shuts CForElement c.last ∷ pass3 k st c
 shut_for_element k st c b = rw (b.1.1) refl
 
-pub shut_conditional_expression : (k : List Symbol) (st : List StackEntry) (c : WriterState) → Comes k → pass3 k (entry GShutConditionalExpression 0 ∷ st) c ≡ shuts CConditionalExpression c.last ∷ pass3 k st c
+pub shut_conditional_expression : (k : List Symbol) (st : List StackEntry) (c : WriterState) → Comes k → pass3 k (entry ShutConditionalExpression 0 ∷ st) c ≡ shuts CConditionalExpression c.last ∷ pass3 k st c
 shut_conditional_expression k st c b = rw (b.1.1) refl
 
-pub shut_go_to : (k : List Symbol) (st : List StackEntry) (c : WriterState) → Comes k → pass3 k (entry GShutGoTo 0 ∷ st) c ≡ shuts CGoTo c.last ∷ pass3 k st c
+pub shut_go_to : (k : List Symbol) (st : List StackEntry) (c : WriterState) → Comes k → pass3 k (entry ShutGoTo 0 ∷ st) c ≡ shuts CGoTo c.last ∷ pass3 k st c
 shut_go_to k st c b = rw (b.1.1) refl
 
-pub shut_conditional_statement : (k : List Symbol) (st : List StackEntry) (c : WriterState) → Comes k → pass3 k (entry GShutConditionalStatement 0 ∷ st) c ≡ shuts CConditionalStatement c.last ∷ pass3 k st c
+pub shut_conditional_statement : (k : List Symbol) (st : List StackEntry) (c : WriterState) → Comes k → pass3 k (entry ShutConditionalStatement 0 ∷ st) c ≡ shuts CConditionalStatement c.last ∷ pass3 k st c
 shut_conditional_statement k st c b = rw (b.1.1) refl
 
-pub shut_for_statement : (k : List Symbol) (st : List StackEntry) (c : WriterState) → Comes k → pass3 k (entry GShutForStatement 0 ∷ st) c ≡ shuts CForStatement c.last ∷ pass3 k st c
+pub shut_for_statement : (k : List Symbol) (st : List StackEntry) (c : WriterState) → Comes k → pass3 k (entry ShutForStatement 0 ∷ st) c ≡ shuts CForStatement c.last ∷ pass3 k st c
 shut_for_statement k st c b = rw (b.1.1) refl
 
-pub shut_controlled_statement : (k : List Symbol) (st : List StackEntry) (c : WriterState) → Comes k → pass3 k (entry GShutControlledStatement 0 ∷ st) c ≡ shuts CControlledStatement c.last ∷ pass3 k st c
+pub shut_controlled_statement : (k : List Symbol) (st : List StackEntry) (c : WriterState) → Comes k → pass3 k (entry ShutControlledStatement 0 ∷ st) c ≡ shuts CControlledStatement c.last ∷ pass3 k st c
 shut_controlled_statement k st c b = rw (b.1.1) refl
 
-pub open_controlled_statement : (k : List Symbol) (line : ℕ) (op : Bool) (st : List StackEntry) (c : WriterState) → Begins k line → pass3_from op k (entry GOpenControlledStatement 0 ∷ st) c ≡ opens CControlledStatement line ∷ pass3_from true k st c
+pub open_controlled_statement : (k : List Symbol) (line : ℕ) (op : Bool) (st : List StackEntry) (c : WriterState) → Begins k line → pass3_from op k (entry OpenControlledStatement 0 ∷ st) c ≡ opens CControlledStatement line ∷ pass3_from true k st c
 open_controlled_statement k line op st c b = rw (b.is) (ap (λ i. opens CControlledStatement i ∷ pass3_from true (b.first ∷ b.rest) st c) b.on)
 
-pub open_array_segment : (k : List Symbol) (line : ℕ) (op : Bool) (st : List StackEntry) (c : WriterState) → Begins k line → pass3_from op k (entry GOpenArraySegment 0 ∷ st) c ≡ opens CArraySegment line ∷ pass3_from true k st c
+pub open_array_segment : (k : List Symbol) (line : ℕ) (op : Bool) (st : List StackEntry) (c : WriterState) → Begins k line → pass3_from op k (entry OpenArraySegment 0 ∷ st) c ≡ opens CArraySegment line ∷ pass3_from true k st c
 open_array_segment k line op st c b = rw (b.is) (ap (λ i. opens CArraySegment i ∷ pass3_from true (b.first ∷ b.rest) st c) b.on)
 
-pub shut_array_segment : (k : List Symbol) (st : List StackEntry) (c : WriterState) → Comes k → pass3 k (entry GShutArraySegment 0 ∷ st) c ≡ shuts CArraySegment c.last ∷ pass3 k st c
+pub shut_array_segment : (k : List Symbol) (st : List StackEntry) (c : WriterState) → Comes k → pass3 k (entry ShutArraySegment 0 ∷ st) c ≡ shuts CArraySegment c.last ∷ pass3 k st c
 shut_array_segment k st c b = rw (b.1.1) refl
 
-pub open_procedure_body : (k : List Symbol) (line : ℕ) (op : Bool) (st : List StackEntry) (c : WriterState) → Begins k line → pass3_from op k (entry GOpenProcedureBody 0 ∷ st) c ≡ opens CProcedureBody line ∷ pass3_from true k st c
+pub open_procedure_body : (k : List Symbol) (line : ℕ) (op : Bool) (st : List StackEntry) (c : WriterState) → Begins k line → pass3_from op k (entry OpenProcedureBody 0 ∷ st) c ≡ opens CProcedureBody line ∷ pass3_from true k st c
 open_procedure_body k line op st c b = rw (b.is) (ap (λ i. opens CProcedureBody i ∷ pass3_from true (b.first ∷ b.rest) st c) b.on)
 
-pub shut_procedure_body : (k : List Symbol) (st : List StackEntry) (c : WriterState) → Comes k → pass3 k (entry GShutProcedureBody 0 ∷ st) c ≡ shuts CProcedureBody c.last ∷ pass3 k st c
+pub shut_procedure_body : (k : List Symbol) (st : List StackEntry) (c : WriterState) → Comes k → pass3 k (entry ShutProcedureBody 0 ∷ st) c ≡ shuts CProcedureBody c.last ∷ pass3 k st c
 shut_procedure_body k st c b = rw (b.1.1) refl
 
-pub shut_procedure_declaration : (k : List Symbol) (st : List StackEntry) (c : WriterState) → Comes k → pass3 k (entry GShutProcedureDeclaration 0 ∷ st) c ≡ shuts CProcedureDeclaration c.last ∷ pass3 k st c
+pub shut_procedure_declaration : (k : List Symbol) (st : List StackEntry) (c : WriterState) → Comes k → pass3 k (entry ShutProcedureDeclaration 0 ∷ st) c ≡ shuts CProcedureDeclaration c.last ∷ pass3 k st c
 shut_procedure_declaration k st c b = rw (b.1.1) refl
 
-pub shut_switch_declaration : (k : List Symbol) (st : List StackEntry) (c : WriterState) → Comes k → pass3 k (entry GShutSwitchDeclaration 0 ∷ st) c ≡ shuts CSwitchDeclaration c.last ∷ pass3 k st c
+pub shut_switch_declaration : (k : List Symbol) (st : List StackEntry) (c : WriterState) → Comes k → pass3 k (entry ShutSwitchDeclaration 0 ∷ st) c ≡ shuts CSwitchDeclaration c.last ∷ pass3 k st c
 shut_switch_declaration k st c b = rw (b.1.1) refl
 
-pub shut_type_declaration : (k : List Symbol) (st : List StackEntry) (c : WriterState) → Comes k → pass3 k (entry GShutTypeDeclaration 0 ∷ st) c ≡ shuts CTypeDeclaration c.last ∷ pass3 k st c
+pub shut_type_declaration : (k : List Symbol) (st : List StackEntry) (c : WriterState) → Comes k → pass3 k (entry ShutTypeDeclaration 0 ∷ st) c ≡ shuts CTypeDeclaration c.last ∷ pass3 k st c
 shut_type_declaration k st c b = rw (b.1.1) refl
 
-pub shut_block : (k : List Symbol) (st : List StackEntry) (c : WriterState) → Comes k → pass3 k (entry GShutBlock 0 ∷ st) c ≡ shuts CBlock c.last ∷ pass3 k st c
+pub shut_block : (k : List Symbol) (st : List StackEntry) (c : WriterState) → Comes k → pass3 k (entry ShutBlock 0 ∷ st) c ≡ shuts CBlock c.last ∷ pass3 k st c
 shut_block k st c b = rw (b.1.1) refl
 
-pub shut_compound : (k : List Symbol) (st : List StackEntry) (c : WriterState) → Comes k → pass3 k (entry GShutCompound 0 ∷ st) c ≡ shuts CCompound c.last ∷ pass3 k st c
+pub shut_compound : (k : List Symbol) (st : List StackEntry) (c : WriterState) → Comes k → pass3 k (entry ShutCompound 0 ∷ st) c ≡ shuts CCompound c.last ∷ pass3 k st c
 shut_compound k st c b = rw (b.1.1) refl
 
-pub shut_program : (k : List Symbol) (st : List StackEntry) (c : WriterState) → Comes k → pass3 k (entry GShutProgram 0 ∷ st) c ≡ shuts CProgram c.last ∷ pass3 k st c
+pub shut_program : (k : List Symbol) (st : List StackEntry) (c : WriterState) → Comes k → pass3 k (entry ShutProgram 0 ∷ st) c ≡ shuts CProgram c.last ∷ pass3 k st c
 shut_program k st c b = rw (b.1.1) refl
 
-pub open_program : (k : List Symbol) (line : ℕ) (op : Bool) (st : List StackEntry) (c : WriterState) → Begins k line → pass3_from op k (entry GOpenProgram 0 ∷ st) c ≡ opens CProgram line ∷ pass3_from true k st c
+pub open_program : (k : List Symbol) (line : ℕ) (op : Bool) (st : List StackEntry) (c : WriterState) → Begins k line → pass3_from op k (entry OpenProgram 0 ∷ st) c ≡ opens CProgram line ∷ pass3_from true k st c
 open_program k line op st c b = rw (b.is) (ap (λ i. opens CProgram i ∷ pass3_from true (b.first ∷ b.rest) st c) b.on)

@@ -15,7 +15,7 @@ use Rattle.gier_tree.specs.OwnCount.{owns_of_declaration, owns_of_declarations, 
 use Rattle.gier_tree.specs.Written.{Text, Marked, opens, shuts, leading_tag, text_name, text_expr, text_call, text_element, text_actual, text_actuals, text_subscripts, Expected, expected_kinds, further_expected}
 use Rattle.gier_tree.specs.Texts.{next_names, names_as, own_place, next_owns, owns_as, text_bound, text_pair, text_pairs, text_segment, text_segments, text_constant, text_fixed_pair, text_further_pairs, text_fixed, fixed_count, text_fixeds, text_switch_element, text_switch_elements, text_formals, text_values, text_specifications, text_heading, text_labels, text_left, text_lefts, text_turn, text_turns, text_next_turns, text_call_statement, next_line, Where, further, behind_statement, behind_declaration, behind_declarations, inner, text_declaration, text_declarations, text_group, text_statements, text_statement, text_unconditional, text_basic, text_conditional, text_loop}
 use Rattle.gier_tree.specs.Trees.{Name, Adding, Add, Subtract, Expr, OneSimple, IfExpr, Call, Alone, WithActuals, Element, Subscripted, Actual, Actuals, Exprs, NoExprs, MoreExprs, NextName, Names, MkNames, ValueType, IntegerType, BooleanType, TypeWord, BoundPair, MkPair, NextPair, Segment, MkSegment, NextSegment, Constant, Unsigned, WithSign, FixedPair, MkFixedPair, Further, NoFurther, MoreFurther, FurtherPairs, most_further, FixedSegment, MkFixed, NextFixed, Formals, NoFormals, FormalList, ValuePart, NoValues, ValueList, Specifier, ValueSpec, ArraySpec, LabelSpec, SwitchSpec, StringSpec, ProcedureSpec, FunctionSpec, Specification, Heading, MkHeading, LabelPlace, LeftSide, OneName, LeftElement, LeftPart, Turns, OneValue, StepUntil, WhileTrue, NextTurns, Declaration, DeclareType, DeclareOwn, DeclareArrays, DeclareOwnArrays, DeclareSwitch, DeclareProcedure, Declarations, NoDeclarations, MoreDeclarations, Group, MkBlock, MkCompound, Statements, NoStatements, MoreStatements, Statement, OneUnconditional, OneConditional, OneLoop, Unconditional, MkUnconditional, Basic, OneGroup, Assign, Jump, CallStatement, Dummy, Conditional, IfThen, IfElse, IfLoop, Loop, MkLoop, Program, MkProgram}
-use Rattle.gier_grammar.specs.declared.grammar_symbol.GrammarSymbol.TheVariants.{OpenProgram as GOpenProgram, OpenArraySegment as GOpenArraySegment, OpenProcedureBody as GOpenProcedureBody, OpenControlledStatement as GOpenControlledStatement, OpenActual as GOpenActual, OpenSubscript as GOpenSubscript, OpenBound as GOpenBound, OpenSwitchElement as GOpenSwitchElement, OpenForElement as GOpenForElement, ShutProgram as GShutProgram, ShutBlock as GShutBlock, ShutCompound as GShutCompound, ShutTypeDeclaration as GShutTypeDeclaration, ShutArraySegment as GShutArraySegment, ShutSwitchDeclaration as GShutSwitchDeclaration, ShutProcedureDeclaration as GShutProcedureDeclaration, ShutProcedureBody as GShutProcedureBody, ShutForStatement as GShutForStatement, ShutControlledStatement as GShutControlledStatement, ShutConditionalStatement as GShutConditionalStatement, ShutActual as GShutActual, ShutSubscript as GShutSubscript, ShutBound as GShutBound, ShutSwitchElement as GShutSwitchElement, ShutForElement as GShutForElement, ShutGoTo as GShutGoTo, AfterOwnType as GAfterOwnType, Program as GProgram, ProgramColon as GProgramColon, TextEnd as GTextEnd, AfterBegin as GAfterBegin, BlockTail as GBlockTail, CompoundTail as GCompoundTail, FirstDeclared as GFirstDeclared, Declared as GDeclared, MoreDeclarations as GMoreDeclarations, OwnType as GOwnType, OwnName as GOwnName, MoreOwnNames as GMoreOwnNames, FixedBounds as GFixedBounds, FixedColon as GFixedColon, MorePairs as GMorePairs, MoreFixedSegments as GMoreFixedSegments, AfterType as GAfterType, Name as GName, MoreNames as GMoreNames, Bounds as GBounds, BoundColon as GBoundColon, BoundTail as GBoundTail, MoreSegments as GMoreSegments, SwitchBecomes as GSwitchBecomes, MoreSwitchElements as GMoreSwitchElements, MayFormals as GMayFormals, Formal as GFormal, FormalTail as GFormalTail, Heading as GHeading, MayValues as GMayValues, ValueName as GValueName, MoreValueNames as GMoreValueNames, Semicolon as GSemicolon, MoreSpecifications as GMoreSpecifications, MaySpecifier as GMaySpecifier, SpecifiedName as GSpecifiedName, MoreSpecifiedNames as GMoreSpecifiedNames, Statement as GStatement, AfterName as GAfterName, Branch as GBranch, AfterBranchName as GAfterBranchName, MayElse as GMayElse, ForVariable as GForVariable, ForBecomes as GForBecomes, MayStep as GMayStep, ForTail as GForTail, Until as GUntil, Becomes as GBecomes, Right as GRight, Expression as GExpression, Then as GThen, MaySign as GMaySign, Number as GNumber, SubscriptTail as GSubscriptTail, Actual as GActual, ActualTail as GActualTail}
+use Rattle.gier_grammar.specs.declared.grammar_symbol.GrammarSymbol.TheVariants.{OpenProgram, OpenArraySegment, OpenProcedureBody, OpenControlledStatement, OpenActual, OpenSubscript, OpenBound, OpenSwitchElement, OpenForElement, ShutProgram, ShutBlock, ShutCompound, ShutTypeDeclaration, ShutArraySegment, ShutSwitchDeclaration, ShutProcedureDeclaration, ShutProcedureBody, ShutForStatement, ShutControlledStatement, ShutConditionalStatement, ShutActual, ShutSubscript, ShutBound, ShutSwitchElement, ShutForElement, ShutGoTo, AfterOwnType as GAfterOwnType, Program as GProgram, ProgramColon as GProgramColon, TextEnd as GTextEnd, AfterBegin as GAfterBegin, BlockTail as GBlockTail, CompoundTail as GCompoundTail, FirstDeclared as GFirstDeclared, Declared as GDeclared, MoreDeclarations as GMoreDeclarations, OwnType as GOwnType, OwnName as GOwnName, MoreOwnNames as GMoreOwnNames, FixedBounds as GFixedBounds, FixedColon as GFixedColon, MorePairs as GMorePairs, MoreFixedSegments as GMoreFixedSegments, AfterType as GAfterType, Name as GName, MoreNames as GMoreNames, Bounds as GBounds, BoundColon as GBoundColon, BoundTail as GBoundTail, MoreSegments as GMoreSegments, SwitchBecomes as GSwitchBecomes, MoreSwitchElements as GMoreSwitchElements, MayFormals as GMayFormals, Formal as GFormal, FormalTail as GFormalTail, Heading as GHeading, MayValues as GMayValues, ValueName as GValueName, MoreValueNames as GMoreValueNames, Semicolon as GSemicolon, MoreSpecifications as GMoreSpecifications, MaySpecifier as GMaySpecifier, SpecifiedName as GSpecifiedName, MoreSpecifiedNames as GMoreSpecifiedNames, Statement as GStatement, AfterName as GAfterName, Branch as GBranch, AfterBranchName as GAfterBranchName, MayElse as GMayElse, ForVariable as GForVariable, ForBecomes as GForBecomes, MayStep as GMayStep, ForTail as GForTail, Until as GUntil, Becomes as GBecomes, Right as GRight, Expression as GExpression, Then as GThen, MaySign as GMaySign, Number as GNumber, SubscriptTail as GSubscriptTail, Actual as GActual, ActualTail as GActualTail}
 use Rattle.gier_grammar.specs.declared.production.Production.TheVariants.{NextPair as RNextPair}
 use Rattle.gier_grammar.specs.declared.stack_entry.StackEntry.{StackEntry}
 use Rattle.gier_grammar.specs.declared.parse_table.ParseAction.TheVariants.{Error, Expand}
@@ -85,16 +85,16 @@ last_formals line NoFormals = line
 last_formals line (FormalList j ns m) = m
 
 -- a bound, a pair, and more pairs
-pub bound : (os : List Name) (p : Places) (x : Expr) (k : List Symbol) (st : List StackEntry) (l n : ℕ) → EndsExpr k → pass3 (spell_expr x k) (entry GOpenBound 0 ∷ entry GExpression 0 ∷ entry GShutBound 0 ∷ st) (at l n) ≡ text_bound (marked os) p x (pass3 k st (at (last_expr x) n))
+pub bound : (os : List Name) (p : Places) (x : Expr) (k : List Symbol) (st : List StackEntry) (l n : ℕ) → EndsExpr k → pass3 (spell_expr x k) (entry OpenBound 0 ∷ entry GExpression 0 ∷ entry ShutBound 0 ∷ st) (at l n) ≡ text_bound (marked os) p x (pass3 k st (at (last_expr x) n))
 bound os p x k st l n e =
-    open_bound (spell_expr x k) (first_expr x) false (entry GExpression 0 ∷ entry GShutBound 0 ∷ st) (at l n) (begins_expr x k)
-    ∙ ap (λ w. opens MBound (first_expr x) ∷ w) (expr os p WExpression (entry GShutBound 0 ∷ st) x k true l n e ∙ ap (text_expr (marked os) p x) (shut_bound k st (at (last_expr x) n) (comes_of e)))
+    open_bound (spell_expr x k) (first_expr x) false (entry GExpression 0 ∷ entry ShutBound 0 ∷ st) (at l n) (begins_expr x k)
+    ∙ ap (λ w. opens MBound (first_expr x) ∷ w) (expr os p WExpression (entry ShutBound 0 ∷ st) x k true l n e ∙ ap (text_expr (marked os) p x) (shut_bound k st (at (last_expr x) n) (comes_of e)))
 
 pub pairs_end : (qs : List NextPair) (m : ℕ) (k : List Symbol) → EndsExpr (spell_next_pairs qs (word RightBracket m ∷ k))
 pairs_end [] m k = ends_right_bracket m k
 pairs_end (q ∷ qs) m k = ends_comma q.comma _
 
-pub pair : (os : List Name) (p : Places) (q : BoundPair) (k : List Symbol) (st : List StackEntry) (l n : ℕ) → EndsExpr k → pass3 (spell_pair q k) (entry GOpenBound 0 ∷ entry GExpression 0 ∷ entry GShutBound 0 ∷ entry GBoundColon 0 ∷ st) (at l n) ≡ text_pair (marked os) p q (pass3 k st (at (last_pair q) n))
+pub pair : (os : List Name) (p : Places) (q : BoundPair) (k : List Symbol) (st : List StackEntry) (l n : ℕ) → EndsExpr k → pass3 (spell_pair q k) (entry OpenBound 0 ∷ entry GExpression 0 ∷ entry ShutBound 0 ∷ entry GBoundColon 0 ∷ st) (at l n) ≡ text_pair (marked os) p q (pass3 k st (at (last_pair q) n))
 pair os p (MkPair a j b) k st l n e =
     bound os p a (word Colon j ∷ spell_expr b k) (entry GBoundColon 0 ∷ st) l n (ends_colon j _)
     ∙ ap (λ w. text_bound (marked os) p a (word Colon j ∷ w)) (bound os p b k st j n e)
@@ -104,11 +104,11 @@ pairs os p [] m k st l n = refl
 pairs os p (q ∷ qs) m k st l n = ap (λ w. word Comma q.comma ∷ w) (pair os p q.pair (spell_next_pairs qs (word RightBracket m ∷ k)) (entry GBoundTail 0 ∷ st) q.comma n (pairs_end qs m k) ∙ ap (text_pair (marked os) p q.pair) (pairs os p qs m k st _ n))
 
 -- segments, where what follows is no comma for the last
-pub segment : (os : List Name) (p : Places) (s : Segment) (k : List Symbol) (st : List StackEntry) (l n : ℕ) → Comes k → pass3 (spell_segment s k) (entry GOpenArraySegment 0 ∷ entry GName 0 ∷ entry GMoreNames 0 ∷ entry GBounds 0 ∷ entry GShutArraySegment 0 ∷ st) (at l n) ≡ text_segment (marked os) p s (pass3 k st (at (last_segment s) n))
+pub segment : (os : List Name) (p : Places) (s : Segment) (k : List Symbol) (st : List StackEntry) (l n : ℕ) → Comes k → pass3 (spell_segment s k) (entry OpenArraySegment 0 ∷ entry GName 0 ∷ entry GMoreNames 0 ∷ entry GBounds 0 ∷ entry ShutArraySegment 0 ∷ st) (at l n) ≡ text_segment (marked os) p s (pass3 k st (at (last_segment s) n))
 segment os p (MkSegment (MkNames x ns) j q qs m) k st l n e =
-    ap (λ w. opens MSegment x.line ∷ sym Declaring x.number x.line ∷ w) (more_names ns (word LeftBracket j ∷ spell_pair q (spell_next_pairs qs (word RightBracket m ∷ k))) (entry GBounds 0 ∷ entry GShutArraySegment 0 ∷ st) x.line n (λ st l n. refl)
-    ∙ ap (λ w. next_names Declaring ns (word LeftBracket j ∷ w)) (pair os p q (spell_next_pairs qs (word RightBracket m ∷ k)) (entry GBoundTail 0 ∷ entry GShutArraySegment 0 ∷ st) j n (pairs_end qs m k)
-    ∙ ap (text_pair (marked os) p q) (pairs os p qs m k (entry GShutArraySegment 0 ∷ st) _ n ∙ ap (λ w. text_pairs (marked os) p qs (word RightBracket m ∷ w)) (shut_array_segment k st (at m n) e))))
+    ap (λ w. opens MSegment x.line ∷ sym Declaring x.number x.line ∷ w) (more_names ns (word LeftBracket j ∷ spell_pair q (spell_next_pairs qs (word RightBracket m ∷ k))) (entry GBounds 0 ∷ entry ShutArraySegment 0 ∷ st) x.line n (λ st l n. refl)
+    ∙ ap (λ w. next_names Declaring ns (word LeftBracket j ∷ w)) (pair os p q (spell_next_pairs qs (word RightBracket m ∷ k)) (entry GBoundTail 0 ∷ entry ShutArraySegment 0 ∷ st) j n (pairs_end qs m k)
+    ∙ ap (text_pair (marked os) p q) (pairs os p qs m k (entry ShutArraySegment 0 ∷ st) _ n ∙ ap (λ w. text_pairs (marked os) p qs (word RightBracket m ∷ w)) (shut_array_segment k st (at m n) e))))
 
 segments_come : (ss : List NextSegment) (k : List Symbol) → Comes k → Comes (spell_next_segments ss k)
 segments_come [] k e = e
@@ -118,16 +118,16 @@ pub segments : (os : List Name) (p : Places) (ss : List NextSegment) (k : List S
 segments os p [] k st l n c e = e st l n
 segments os p (s ∷ ss) k st l n c e = ap (λ w. word Comma s.comma ∷ w) (segment os p s.segment (spell_next_segments ss k) (entry GMoreSegments 0 ∷ st) s.comma n (segments_come ss k c) ∙ ap (text_segment (marked os) p s.segment) (segments os p ss k st _ n c e))
 
-pub all_segments : (os : List Name) (p : Places) (s : Segment) (ss : List NextSegment) (k : List Symbol) (st : List StackEntry) (l n : ℕ) → Comes k → Skips (entry GMoreSegments 0) k → pass3 (spell_segment s (spell_next_segments ss k)) (entry GOpenArraySegment 0 ∷ entry GName 0 ∷ entry GMoreNames 0 ∷ entry GBounds 0 ∷ entry GShutArraySegment 0 ∷ entry GMoreSegments 0 ∷ st) (at l n) ≡ text_segment (marked os) p s (text_segments (marked os) p ss (pass3 k st (at (last_segments (last_segment s) ss) n)))
+pub all_segments : (os : List Name) (p : Places) (s : Segment) (ss : List NextSegment) (k : List Symbol) (st : List StackEntry) (l n : ℕ) → Comes k → Skips (entry GMoreSegments 0) k → pass3 (spell_segment s (spell_next_segments ss k)) (entry OpenArraySegment 0 ∷ entry GName 0 ∷ entry GMoreNames 0 ∷ entry GBounds 0 ∷ entry ShutArraySegment 0 ∷ entry GMoreSegments 0 ∷ st) (at l n) ≡ text_segment (marked os) p s (text_segments (marked os) p ss (pass3 k st (at (last_segments (last_segment s) ss) n)))
 all_segments os p s ss k st l n c e = segment os p s (spell_next_segments ss k) (entry GMoreSegments 0 ∷ st) l n (segments_come ss k c) ∙ ap (text_segment (marked os) p s) (segments os p ss k st _ n c e)
 
 -- the same of own arrays
-pub constant : (c : Constant) (k : List Symbol) (st : List StackEntry) (l n : ℕ) → Comes k → pass3 (spell_constant c k) (entry GOpenBound 0 ∷ entry GMaySign 0 ∷ entry GNumber 0 ∷ entry GShutBound 0 ∷ st) (at l n) ≡ text_constant c (pass3 k st (at (last_constant c) n))
+pub constant : (c : Constant) (k : List Symbol) (st : List StackEntry) (l n : ℕ) → Comes k → pass3 (spell_constant c k) (entry OpenBound 0 ∷ entry GMaySign 0 ∷ entry GNumber 0 ∷ entry ShutBound 0 ∷ st) (at l n) ≡ text_constant c (pass3 k st (at (last_constant c) n))
 constant (Unsigned v i) k st l n e = ap (λ w. opens MBound i ∷ sym Number v i ∷ w) (shut_bound k st (at i n) e)
 constant (WithSign Add i v j) k st l n e = ap (λ w. opens MBound i ∷ word (leading_tag Add) i ∷ sym Number v j ∷ w) (shut_bound k st (at j n) e)
 constant (WithSign Subtract i v j) k st l n e = ap (λ w. opens MBound i ∷ word (leading_tag Subtract) i ∷ sym Number v j ∷ w) (shut_bound k st (at j n) e)
 
-pub fixed_pair : (q : FixedPair) (k : List Symbol) (st : List StackEntry) (l n : ℕ) → Comes k → pass3 (spell_fixed_pair q k) (entry GOpenBound 0 ∷ entry GMaySign 0 ∷ entry GNumber 0 ∷ entry GShutBound 0 ∷ entry GFixedColon 0 ∷ st) (at l n) ≡ text_fixed_pair q (pass3 k st (at (last_fixed_pair q) n))
+pub fixed_pair : (q : FixedPair) (k : List Symbol) (st : List StackEntry) (l n : ℕ) → Comes k → pass3 (spell_fixed_pair q k) (entry OpenBound 0 ∷ entry GMaySign 0 ∷ entry GNumber 0 ∷ entry ShutBound 0 ∷ entry GFixedColon 0 ∷ st) (at l n) ≡ text_fixed_pair q (pass3 k st (at (last_fixed_pair q) n))
 fixed_pair (MkFixedPair a j b) k st l n e = constant a (word Colon j ∷ spell_constant b k) (entry GFixedColon 0 ∷ st) l n (word Colon j, (_, refl)) ∙ ap (λ w. text_constant a (word Colon j ∷ w)) (constant b k st j n e)
 
 less_one : (j : ℕ) → suc j - 1 ≡ j
@@ -142,7 +142,7 @@ further_come (suc j) NoFurther m k = (word RightBracket m, (k, refl))
 further_come (suc j) (MoreFurther i q more) m k = (word Comma i, (_, refl))
 
 -- a further pair, where so many more are allowed
-take_further : (some : Bool) (i j : ℕ) (w : List Symbol) (st : List StackEntry) (l n : ℕ) → some ≡ true → parse_action_on (if some then Expand RNextPair else Error) (entry GMorePairs (suc j)) (word Comma i) (pass3 w) st (meet Comma (word Comma i) (pass3 w) st) false (at l n) ≡ word Comma i ∷ pass3 w (entry GOpenBound 0 ∷ entry GMaySign 0 ∷ entry GNumber 0 ∷ entry GShutBound 0 ∷ entry GFixedColon 0 ∷ entry GMorePairs (suc j - 1) ∷ st) (at i n)
+take_further : (some : Bool) (i j : ℕ) (w : List Symbol) (st : List StackEntry) (l n : ℕ) → some ≡ true → parse_action_on (if some then Expand RNextPair else Error) (entry GMorePairs (suc j)) (word Comma i) (pass3 w) st (meet Comma (word Comma i) (pass3 w) st) false (at l n) ≡ word Comma i ∷ pass3 w (entry OpenBound 0 ∷ entry GMaySign 0 ∷ entry GNumber 0 ∷ entry ShutBound 0 ∷ entry GFixedColon 0 ∷ entry GMorePairs (suc j - 1) ∷ st) (at i n)
 take_further true i j w st l n h = refl
 take_further false i j w st l n h = absurd (false≢true h)
 
@@ -151,14 +151,14 @@ further_pairs zero qs m k st l n = refl
 further_pairs (suc j) NoFurther m k st l n = refl
 further_pairs (suc j) (MoreFurther i q more) m k st l n =
     take_further (nat_lt 0 (suc j)) i j (spell_fixed_pair q (spell_further_pairs j more (word RightBracket m ∷ k))) st l n (some_left j)
-    ∙ ap (λ a. word Comma i ∷ pass3 (spell_fixed_pair q (spell_further_pairs j more (word RightBracket m ∷ k))) (entry GOpenBound 0 ∷ entry GMaySign 0 ∷ entry GNumber 0 ∷ entry GShutBound 0 ∷ entry GFixedColon 0 ∷ entry GMorePairs a ∷ st) (at i n)) (less_one j)
+    ∙ ap (λ a. word Comma i ∷ pass3 (spell_fixed_pair q (spell_further_pairs j more (word RightBracket m ∷ k))) (entry OpenBound 0 ∷ entry GMaySign 0 ∷ entry GNumber 0 ∷ entry ShutBound 0 ∷ entry GFixedColon 0 ∷ entry GMorePairs a ∷ st) (at i n)) (less_one j)
     ∙ ap (λ w. word Comma i ∷ w) (fixed_pair q (spell_further_pairs j more (word RightBracket m ∷ k)) (entry GMorePairs j ∷ st) i n (further_come j more m k) ∙ ap (text_fixed_pair q) (further_pairs j more m k st _ n))
 
-pub fixed : (s : FixedSegment) (k : List Symbol) (st : List StackEntry) (l n : ℕ) → Comes k → pass3 (spell_fixed s k) (entry GOpenArraySegment 0 ∷ entry GOwnName 0 ∷ entry GMoreOwnNames 0 ∷ entry GFixedBounds 0 ∷ entry GShutArraySegment 0 ∷ st) (at l n) ≡ text_fixed s n (pass3 k st (at (last_fixed s) (n + fixed_count s)))
+pub fixed : (s : FixedSegment) (k : List Symbol) (st : List StackEntry) (l n : ℕ) → Comes k → pass3 (spell_fixed s k) (entry OpenArraySegment 0 ∷ entry GOwnName 0 ∷ entry GMoreOwnNames 0 ∷ entry GFixedBounds 0 ∷ entry ShutArraySegment 0 ∷ st) (at l n) ≡ text_fixed s n (pass3 k st (at (last_fixed s) (n + fixed_count s)))
 fixed (MkFixed (MkNames x ns) j q qs m) k st l n e =
-    ap (λ w. opens MSegment x.line ∷ sym Declaring x.number x.line ∷ sym OwnNumber n x.line ∷ w) (more_owns ns (word LeftBracket j ∷ spell_fixed_pair q (spell_further_pairs most_further qs (word RightBracket m ∷ k))) (entry GFixedBounds 0 ∷ entry GShutArraySegment 0 ∷ st) x.line (suc n) (λ st l n. refl)
-    ∙ ap (λ w. next_owns ns (suc n) (word LeftBracket j ∷ w)) (fixed_pair q (spell_further_pairs most_further qs (word RightBracket m ∷ k)) (entry GMorePairs most_further ∷ entry GShutArraySegment 0 ∷ st) j (suc n + length (map (λ (n : NextName). n.name) ns)) (further_come most_further qs m k)
-    ∙ ap (text_fixed_pair q) (further_pairs most_further qs m k (entry GShutArraySegment 0 ∷ st) _ _ ∙ ap (λ w. text_further_pairs most_further qs (word RightBracket m ∷ w)) (shut_array_segment k st (at m _) e ∙ ap (λ a. shuts MSegment m ∷ pass3 k st (at m a)) (add_suc n _)))))
+    ap (λ w. opens MSegment x.line ∷ sym Declaring x.number x.line ∷ sym OwnNumber n x.line ∷ w) (more_owns ns (word LeftBracket j ∷ spell_fixed_pair q (spell_further_pairs most_further qs (word RightBracket m ∷ k))) (entry GFixedBounds 0 ∷ entry ShutArraySegment 0 ∷ st) x.line (suc n) (λ st l n. refl)
+    ∙ ap (λ w. next_owns ns (suc n) (word LeftBracket j ∷ w)) (fixed_pair q (spell_further_pairs most_further qs (word RightBracket m ∷ k)) (entry GMorePairs most_further ∷ entry ShutArraySegment 0 ∷ st) j (suc n + length (map (λ (n : NextName). n.name) ns)) (further_come most_further qs m k)
+    ∙ ap (text_fixed_pair q) (further_pairs most_further qs m k (entry ShutArraySegment 0 ∷ st) _ _ ∙ ap (λ w. text_further_pairs most_further qs (word RightBracket m ∷ w)) (shut_array_segment k st (at m _) e ∙ ap (λ a. shuts MSegment m ∷ pass3 k st (at m a)) (add_suc n _)))))
 
 pub fixeds_come : (ss : List NextFixed) (k : List Symbol) → Comes k → Comes (spell_next_fixed ss k)
 fixeds_come [] k e = e

@@ -15,7 +15,7 @@ use Rattle.gier_tree.specs.OwnCount.{owns_of_declaration, owns_of_declarations, 
 use Rattle.gier_tree.specs.Written.{Text, Marked, opens, shuts, leading_tag, text_name, text_expr, text_call, text_element, text_actual, text_actuals, text_subscripts, Expected, expected_kinds, further_expected}
 use Rattle.gier_tree.specs.Texts.{next_names, names_as, own_place, next_owns, owns_as, text_bound, text_pair, text_pairs, text_segment, text_segments, text_constant, text_fixed_pair, text_further_pairs, text_fixed, fixed_count, text_fixeds, text_switch_element, text_switch_elements, text_formals, text_values, text_specifications, text_heading, text_labels, text_left, text_lefts, text_turn, text_turns, text_next_turns, text_call_statement, next_line, Where, further, behind_statement, behind_declaration, behind_declarations, inner, text_declaration, text_declarations, text_group, text_statements, text_statement, text_unconditional, text_basic, text_conditional, text_loop}
 use Rattle.gier_tree.specs.Trees.{Name, Adding, Add, Subtract, Expr, OneSimple, IfExpr, Call, Alone, WithActuals, Element, Subscripted, Actual, Actuals, Exprs, NoExprs, MoreExprs, NextName, Names, MkNames, ValueType, IntegerType, BooleanType, TypeWord, BoundPair, MkPair, NextPair, Segment, MkSegment, NextSegment, Constant, Unsigned, WithSign, FixedPair, MkFixedPair, Further, NoFurther, MoreFurther, FurtherPairs, most_further, FixedSegment, MkFixed, NextFixed, Formals, NoFormals, FormalList, ValuePart, NoValues, ValueList, Specifier, ValueSpec, ArraySpec, LabelSpec, SwitchSpec, StringSpec, ProcedureSpec, FunctionSpec, Specification, Heading, MkHeading, LabelPlace, LeftSide, OneName, LeftElement, LeftPart, Turns, OneValue, StepUntil, WhileTrue, NextTurns, Declaration, DeclareType, DeclareOwn, DeclareArrays, DeclareOwnArrays, DeclareSwitch, DeclareProcedure, Declarations, NoDeclarations, MoreDeclarations, Group, MkBlock, MkCompound, Statements, NoStatements, MoreStatements, Statement, OneUnconditional, OneConditional, OneLoop, Unconditional, MkUnconditional, Basic, OneGroup, Assign, Jump, CallStatement, Dummy, Conditional, IfThen, IfElse, IfLoop, Loop, MkLoop, Program, MkProgram}
-use Rattle.gier_grammar.specs.declared.grammar_symbol.GrammarSymbol.TheVariants.{OpenProgram as GOpenProgram, OpenArraySegment as GOpenArraySegment, OpenProcedureBody as GOpenProcedureBody, OpenControlledStatement as GOpenControlledStatement, OpenActual as GOpenActual, OpenSubscript as GOpenSubscript, OpenBound as GOpenBound, OpenSwitchElement as GOpenSwitchElement, OpenForElement as GOpenForElement, ShutProgram as GShutProgram, ShutBlock as GShutBlock, ShutCompound as GShutCompound, ShutTypeDeclaration as GShutTypeDeclaration, ShutArraySegment as GShutArraySegment, ShutSwitchDeclaration as GShutSwitchDeclaration, ShutProcedureDeclaration as GShutProcedureDeclaration, ShutProcedureBody as GShutProcedureBody, ShutForStatement as GShutForStatement, ShutControlledStatement as GShutControlledStatement, ShutConditionalStatement as GShutConditionalStatement, ShutActual as GShutActual, ShutSubscript as GShutSubscript, ShutBound as GShutBound, ShutSwitchElement as GShutSwitchElement, ShutForElement as GShutForElement, ShutGoTo as GShutGoTo, AfterOwnType as GAfterOwnType, Program as GProgram, ProgramColon as GProgramColon, TextEnd as GTextEnd, AfterBegin as GAfterBegin, BlockTail as GBlockTail, CompoundTail as GCompoundTail, FirstDeclared as GFirstDeclared, Declared as GDeclared, MoreDeclarations as GMoreDeclarations, OwnType as GOwnType, OwnName as GOwnName, MoreOwnNames as GMoreOwnNames, FixedBounds as GFixedBounds, FixedColon as GFixedColon, MorePairs as GMorePairs, MoreFixedSegments as GMoreFixedSegments, AfterType as GAfterType, Name as GName, MoreNames as GMoreNames, Bounds as GBounds, BoundColon as GBoundColon, BoundTail as GBoundTail, MoreSegments as GMoreSegments, SwitchBecomes as GSwitchBecomes, MoreSwitchElements as GMoreSwitchElements, MayFormals as GMayFormals, Formal as GFormal, FormalTail as GFormalTail, Heading as GHeading, MayValues as GMayValues, ValueName as GValueName, MoreValueNames as GMoreValueNames, Semicolon as GSemicolon, MoreSpecifications as GMoreSpecifications, MaySpecifier as GMaySpecifier, SpecifiedName as GSpecifiedName, MoreSpecifiedNames as GMoreSpecifiedNames, Statement as GStatement, AfterName as GAfterName, Branch as GBranch, AfterBranchName as GAfterBranchName, MayElse as GMayElse, ForVariable as GForVariable, ForBecomes as GForBecomes, MayStep as GMayStep, ForTail as GForTail, Until as GUntil, Becomes as GBecomes, Right as GRight, Expression as GExpression, Then as GThen, MaySign as GMaySign, Number as GNumber, SubscriptTail as GSubscriptTail, Actual as GActual, ActualTail as GActualTail}
+use Rattle.gier_grammar.specs.declared.grammar_symbol.GrammarSymbol.TheVariants.{OpenProgram, OpenArraySegment, OpenProcedureBody, OpenControlledStatement, OpenActual, OpenSubscript, OpenBound, OpenSwitchElement, OpenForElement, ShutProgram, ShutBlock, ShutCompound, ShutTypeDeclaration, ShutArraySegment, ShutSwitchDeclaration, ShutProcedureDeclaration, ShutProcedureBody, ShutForStatement, ShutControlledStatement, ShutConditionalStatement, ShutActual, ShutSubscript, ShutBound, ShutSwitchElement, ShutForElement, ShutGoTo, AfterOwnType as GAfterOwnType, Program as GProgram, ProgramColon as GProgramColon, TextEnd as GTextEnd, AfterBegin as GAfterBegin, BlockTail as GBlockTail, CompoundTail as GCompoundTail, FirstDeclared as GFirstDeclared, Declared as GDeclared, MoreDeclarations as GMoreDeclarations, OwnType as GOwnType, OwnName as GOwnName, MoreOwnNames as GMoreOwnNames, FixedBounds as GFixedBounds, FixedColon as GFixedColon, MorePairs as GMorePairs, MoreFixedSegments as GMoreFixedSegments, AfterType as GAfterType, Name as GName, MoreNames as GMoreNames, Bounds as GBounds, BoundColon as GBoundColon, BoundTail as GBoundTail, MoreSegments as GMoreSegments, SwitchBecomes as GSwitchBecomes, MoreSwitchElements as GMoreSwitchElements, MayFormals as GMayFormals, Formal as GFormal, FormalTail as GFormalTail, Heading as GHeading, MayValues as GMayValues, ValueName as GValueName, MoreValueNames as GMoreValueNames, Semicolon as GSemicolon, MoreSpecifications as GMoreSpecifications, MaySpecifier as GMaySpecifier, SpecifiedName as GSpecifiedName, MoreSpecifiedNames as GMoreSpecifiedNames, Statement as GStatement, AfterName as GAfterName, Branch as GBranch, AfterBranchName as GAfterBranchName, MayElse as GMayElse, ForVariable as GForVariable, ForBecomes as GForBecomes, MayStep as GMayStep, ForTail as GForTail, Until as GUntil, Becomes as GBecomes, Right as GRight, Expression as GExpression, Then as GThen, MaySign as GMaySign, Number as GNumber, SubscriptTail as GSubscriptTail, Actual as GActual, ActualTail as GActualTail}
 use Rattle.gier_grammar.specs.declared.production.Production.TheVariants.{NextPair as RNextPair}
 use Rattle.gier_grammar.specs.declared.stack_entry.StackEntry.{StackEntry}
 use Rattle.gier_grammar.specs.declared.parse_table.ParseAction.TheVariants.{Error, Expand}
@@ -90,7 +90,7 @@ count_names : (ds : List Declaration) → length (names_of_owns ds) ≡ count_ow
 count_names [] = refl
 count_names (d ∷ ds) = omega (arith, length-append (own_names d) (names_of_owns ds), count_names ds)
 
--- where a declaration may begin: it is the first one of a block, whose `_begin` is held, or a further one
+-- where a declaration may begin: it is the first one of a block, whose `_begin` is in the lookahead, or a further one
 data Place : Type 0 where
   First : (begin : ℕ) → Place
   Next : Place
@@ -127,11 +127,11 @@ take_own (First b) i BooleanType j k st l n = refl
 take_own Next i IntegerType j k st l n = refl
 take_own Next i BooleanType j k st l n = refl
 
-take_switch : (a : Place) (i : ℕ) (k : List Symbol) (st : List StackEntry) (l n : ℕ) → pass3 (word Switch i ∷ k) (before_it a st) (lookahead (held_before a) l n) ≡ opening a (opens MSwitch i ∷ word Switch i ∷ pass3 k (entry GName 0 ∷ entry GSwitchBecomes 0 ∷ entry GShutSwitchDeclaration 0 ∷ after_it a st) (at i n))
+take_switch : (a : Place) (i : ℕ) (k : List Symbol) (st : List StackEntry) (l n : ℕ) → pass3 (word Switch i ∷ k) (before_it a st) (lookahead (held_before a) l n) ≡ opening a (opens MSwitch i ∷ word Switch i ∷ pass3 k (entry GName 0 ∷ entry GSwitchBecomes 0 ∷ entry ShutSwitchDeclaration 0 ∷ after_it a st) (at i n))
 take_switch (First b) i k st l n = refl
 take_switch Next i k st l n = refl
 
-take_procedure : (a : Place) (i : ℕ) (k : List Symbol) (st : List StackEntry) (l n : ℕ) → pass3 (word Procedure i ∷ k) (before_it a st) (lookahead (held_before a) l n) ≡ opening a (opens MProcedure i ∷ word Procedure i ∷ pass3 k (entry GName 0 ∷ entry GMayFormals 0 ∷ entry GHeading 0 ∷ entry GShutProcedureDeclaration 0 ∷ after_it a st) (at i n))
+take_procedure : (a : Place) (i : ℕ) (k : List Symbol) (st : List StackEntry) (l n : ℕ) → pass3 (word Procedure i ∷ k) (before_it a st) (lookahead (held_before a) l n) ≡ opening a (opens MProcedure i ∷ word Procedure i ∷ pass3 k (entry GName 0 ∷ entry GMayFormals 0 ∷ entry GHeading 0 ∷ entry ShutProcedureDeclaration 0 ∷ after_it a st) (at i n))
 take_procedure (First b) i k st l n = refl
 take_procedure Next i k st l n = refl
 
@@ -150,8 +150,8 @@ more_of TBlock st = entry GBlockTail 0 ∷ st
 more_of TCompound st = entry GCompoundTail 0 ∷ st
 
 abbrev shut_of : Tail → List StackEntry → List StackEntry
-shut_of TBlock st = entry GShutBlock 0 ∷ st
-shut_of TCompound st = entry GShutCompound 0 ∷ st
+shut_of TBlock st = entry ShutBlock 0 ∷ st
+shut_of TCompound st = entry ShutCompound 0 ∷ st
 
 take_next : (t : Tail) (j : ℕ) (k : List Symbol) (st : List StackEntry) (l n : ℕ) → pass3 (word Semicolon j ∷ k) (more_of t st) (at l n) ≡ word Semicolon j ∷ pass3 k (entry GStatement 0 ∷ more_of t st) (at j n)
 take_next TBlock j k st l n = refl
@@ -179,11 +179,11 @@ specified_headless (s ∷ ss) k e = one_headless s.specifier _
     one_headless (ProcedureSpec l) k = λ st l n. refl
     one_headless (FunctionSpec t l) k = typed_headless t.type t.line (word Procedure l ∷ k)
 
-heading_rest : (x : Name) (fs : Formals) (m : ℕ) (vs : ValuePart) (ss : List Specification) (k : List Symbol) (st : List StackEntry) (l n : ℕ) → Headless k → pass3 (ident x ∷ spell_formals fs (word Semicolon m ∷ spell_values vs (spell_specifications ss k))) (entry GName 0 ∷ entry GMayFormals 0 ∷ entry GHeading 0 ∷ st) (at l n) ≡ sym Declaring x.number x.line ∷ text_formals fs (word Semicolon m ∷ text_values vs (text_specifications ss (pass3 k (entry GOpenProcedureBody 0 ∷ entry GStatement 0 ∷ entry GShutProcedureBody 0 ∷ st) (at (last_specifications ss (last_values vs m)) n))))
+heading_rest : (x : Name) (fs : Formals) (m : ℕ) (vs : ValuePart) (ss : List Specification) (k : List Symbol) (st : List StackEntry) (l n : ℕ) → Headless k → pass3 (ident x ∷ spell_formals fs (word Semicolon m ∷ spell_values vs (spell_specifications ss k))) (entry GName 0 ∷ entry GMayFormals 0 ∷ entry GHeading 0 ∷ st) (at l n) ≡ sym Declaring x.number x.line ∷ text_formals fs (word Semicolon m ∷ text_values vs (text_specifications ss (pass3 k (entry OpenProcedureBody 0 ∷ entry GStatement 0 ∷ entry ShutProcedureBody 0 ∷ st) (at (last_specifications ss (last_values vs m)) n))))
 heading_rest x fs m vs ss k st l n e =
     ap (λ w. sym Declaring x.number x.line ∷ w) (formals fs (word Semicolon m ∷ spell_values vs (spell_specifications ss k)) (entry GHeading 0 ∷ st) x.line n (λ st l n. refl)
-    ∙ ap (λ w. text_formals fs (word Semicolon m ∷ w)) (values vs (spell_specifications ss k) (entry GMoreSpecifications 0 ∷ entry GOpenProcedureBody 0 ∷ entry GStatement 0 ∷ entry GShutProcedureBody 0 ∷ st) m n (specified_headless ss k e)
-    ∙ ap (text_values vs) (specifications ss k (entry GOpenProcedureBody 0 ∷ entry GStatement 0 ∷ entry GShutProcedureBody 0 ∷ st) (last_values vs m) n e.specifications)))
+    ∙ ap (λ w. text_formals fs (word Semicolon m ∷ w)) (values vs (spell_specifications ss k) (entry GMoreSpecifications 0 ∷ entry OpenProcedureBody 0 ∷ entry GStatement 0 ∷ entry ShutProcedureBody 0 ∷ st) m n (specified_headless ss k e)
+    ∙ ap (text_values vs) (specifications ss k (entry OpenProcedureBody 0 ∷ entry GStatement 0 ∷ entry ShutProcedureBody 0 ∷ st) (last_values vs m) n e.specifications)))
 
 abbrev last_declarations : (line : ℕ) → Declarations → ℕ
 last_declarations line NoDeclarations = line
@@ -205,11 +205,11 @@ mutual
   declaration : (os : List Name) (p : Places) (w : Where) (a : Place) (x : Declaration) (j : ℕ) (k : List Symbol) (st : List StackEntry) (l n m : ℕ) → w.owns ≡ n → n + owns_in_declaration x ≡ m → pass3 (spell_declaration x (word Semicolon j ∷ k)) (before_it a st) (lookahead (held_before a) l n) ≡ opening a (text_declaration (marked os) p w j x (word Semicolon j ∷ pass3 k (behind_it a st) (at j m)))
   declaration os p w a (DeclareType y (MkNames x xs)) j k st l n m e f =
       take_type a y.type y.line (ident x ∷ spell_next_names xs (word Semicolon j ∷ k)) st l n
-      ∙ ap (λ z. opening a (opens MType y.line ∷ word (type_tag y.type) y.line ∷ sym Declaring x.number x.line ∷ z)) (more_names xs (word Semicolon j ∷ k) (entry GShutTypeDeclaration 0 ∷ after_it a st) x.line n (λ st l n. refl)
+      ∙ ap (λ z. opening a (opens MType y.line ∷ word (type_tag y.type) y.line ∷ sym Declaring x.number x.line ∷ z)) (more_names xs (word Semicolon j ∷ k) (entry ShutTypeDeclaration 0 ∷ after_it a st) x.line n (λ st l n. refl)
       ∙ ap (λ z. next_names Declaring xs (shuts MType (last_next_name x.line xs) ∷ z)) (take_end a j k st (last_next_name x.line xs) n ∙ ap (λ b. word Semicolon j ∷ pass3 k (behind_it a st) (at j b)) (no_owns n m f)))
   declaration os p w a (DeclareOwn i y (MkNames x xs)) j k st l n m e f =
       take_own a i y.type y.line (ident x ∷ spell_next_names xs (word Semicolon j ∷ k)) st l n
-      ∙ ap (λ z. opening a (opens MType i ∷ word Own i ∷ word (type_tag y.type) y.line ∷ sym Declaring x.number x.line ∷ sym OwnNumber n x.line ∷ z)) (more_owns xs (word Semicolon j ∷ k) (entry GShutTypeDeclaration 0 ∷ after_it a st) x.line (suc n) (λ st l n. refl)
+      ∙ ap (λ z. opening a (opens MType i ∷ word Own i ∷ word (type_tag y.type) y.line ∷ sym Declaring x.number x.line ∷ sym OwnNumber n x.line ∷ z)) (more_owns xs (word Semicolon j ∷ k) (entry ShutTypeDeclaration 0 ∷ after_it a st) x.line (suc n) (λ st l n. refl)
       ∙ ap (λ z. next_owns xs (suc n) (shuts MType (last_next_name x.line xs) ∷ z)) (take_end a j k st (last_next_name x.line xs) _ ∙ ap (λ b. word Semicolon j ∷ pass3 k (behind_it a st) (at j b)) (omega (arith, f))))
       ∙ ap (λ b. opening a (opens MType i ∷ word Own i ∷ word (type_tag y.type) y.line ∷ owns_as (MkNames x xs) b (shuts MType (last_next_name x.line xs) ∷ word Semicolon j ∷ pass3 k (behind_it a st) (at j m)))) (back e)
   declaration os p w a (DeclareArrays y i s ss) j k st l n m e f =
@@ -224,7 +224,7 @@ mutual
       ∙ ap (λ b. opening a (word Own i ∷ word (type_tag y.type) y.line ∷ word Array h ∷ text_fixed s b (text_fixeds ss (b + fixed_count s) (word Semicolon j ∷ pass3 k (behind_it a st) (at j m))))) (back e)
   declaration os p w a (DeclareSwitch i x b y ys) j k st l n m e f =
       take_switch a i (ident x ∷ word Becomes b ∷ spell_expr y (spell_exprs ys (word Semicolon j ∷ k))) st l n
-      ∙ ap (λ z. opening a (opens MSwitch i ∷ word Switch i ∷ sym Declaring x.number x.line ∷ word Becomes b ∷ z)) (switch_elements os p y ys j k (entry GShutSwitchDeclaration 0 ∷ after_it a st) b n
+      ∙ ap (λ z. opening a (opens MSwitch i ∷ word Switch i ∷ sym Declaring x.number x.line ∷ word Becomes b ∷ z)) (switch_elements os p y ys j k (entry ShutSwitchDeclaration 0 ∷ after_it a st) b n
       ∙ ap (λ z. text_switch_element (marked os) p y (text_switch_elements (marked os) p ys (shuts MSwitch (last_exprs (last_expr y) ys) ∷ z))) (take_end a j k st (last_exprs (last_expr y) ys) n ∙ ap (λ b. word Semicolon j ∷ pass3 k (behind_it a st) (at j b)) (no_owns n m f)))
   declaration os p w a (DeclareProcedure (MkHeading None i x fs c vs ss) s) j k st l n m e f =
       let h = MkHeading None i x fs c vs ss in
@@ -232,8 +232,8 @@ mutual
       let v = inner w (procedure_entries h s) in
       let from = last_specifications ss (last_values vs c) in
       take_procedure a i (ident x ∷ spell_formals fs (word Semicolon c ∷ spell_values vs (spell_specifications ss (spell_statement s (word Semicolon j ∷ k))))) st l n
-      ∙ ap (λ z. opening a (opens MProcedure i ∷ word Procedure i ∷ z)) (heading_rest x fs c vs ss (spell_statement s (word Semicolon j ∷ k)) (entry GShutProcedureDeclaration 0 ∷ after_it a st) i n (headless s (word Semicolon j ∷ k) j (whole_semicolon j k))
-      ∙ ap (λ z. sym Declaring x.number x.line ∷ text_formals fs (word Semicolon c ∷ text_values vs (text_specifications ss z))) (enclose_body s (word Semicolon j ∷ k) j (entry GShutProcedureDeclaration 0 ∷ after_it a st) from n m (text_statement (marked os) q v j s) (enclosed s _ j) (whole_semicolon j k) f (empty_text os q v j s) (statement os q v s (word Semicolon j ∷ k) j (entry GShutProcedureBody 0 ∷ entry GShutProcedureDeclaration 0 ∷ after_it a st) from n m e f (whole_semicolon j k))
+      ∙ ap (λ z. opening a (opens MProcedure i ∷ word Procedure i ∷ z)) (heading_rest x fs c vs ss (spell_statement s (word Semicolon j ∷ k)) (entry ShutProcedureDeclaration 0 ∷ after_it a st) i n (headless s (word Semicolon j ∷ k) j (whole_semicolon j k))
+      ∙ ap (λ z. sym Declaring x.number x.line ∷ text_formals fs (word Semicolon c ∷ text_values vs (text_specifications ss z))) (enclose_body s (word Semicolon j ∷ k) j (entry ShutProcedureDeclaration 0 ∷ after_it a st) from n m (text_statement (marked os) q v j s) (enclosed s _ j) (whole_semicolon j k) f (empty_text os q v j s) (statement os q v s (word Semicolon j ∷ k) j (entry ShutProcedureBody 0 ∷ entry ShutProcedureDeclaration 0 ∷ after_it a st) from n m e f (whole_semicolon j k))
       ∙ ap (λ z. opens MBody (first_statement s j) ∷ text_statement (marked os) q v j s (shuts MBody (last_statement s j) ∷ shuts MProcedure (last_statement s from) ∷ z)) (take_end a j k st _ m)))
   declaration os p w a (DeclareProcedure (MkHeading (Some y) i x fs c vs ss) s) j k st l n m e f =
       let h = MkHeading (Some y) i x fs c vs ss in
@@ -241,8 +241,8 @@ mutual
       let v = inner w (procedure_entries h s) in
       let from = last_specifications ss (last_values vs c) in
       take_type a y.type y.line (word Procedure i ∷ ident x ∷ spell_formals fs (word Semicolon c ∷ spell_values vs (spell_specifications ss (spell_statement s (word Semicolon j ∷ k))))) st l n
-      ∙ ap (λ z. opening a (opens MProcedure y.line ∷ word (type_tag y.type) y.line ∷ word Procedure i ∷ z)) (heading_rest x fs c vs ss (spell_statement s (word Semicolon j ∷ k)) (entry GShutProcedureDeclaration 0 ∷ after_it a st) i n (headless s (word Semicolon j ∷ k) j (whole_semicolon j k))
-      ∙ ap (λ z. sym Declaring x.number x.line ∷ text_formals fs (word Semicolon c ∷ text_values vs (text_specifications ss z))) (enclose_body s (word Semicolon j ∷ k) j (entry GShutProcedureDeclaration 0 ∷ after_it a st) from n m (text_statement (marked os) q v j s) (enclosed s _ j) (whole_semicolon j k) f (empty_text os q v j s) (statement os q v s (word Semicolon j ∷ k) j (entry GShutProcedureBody 0 ∷ entry GShutProcedureDeclaration 0 ∷ after_it a st) from n m e f (whole_semicolon j k))
+      ∙ ap (λ z. opening a (opens MProcedure y.line ∷ word (type_tag y.type) y.line ∷ word Procedure i ∷ z)) (heading_rest x fs c vs ss (spell_statement s (word Semicolon j ∷ k)) (entry ShutProcedureDeclaration 0 ∷ after_it a st) i n (headless s (word Semicolon j ∷ k) j (whole_semicolon j k))
+      ∙ ap (λ z. sym Declaring x.number x.line ∷ text_formals fs (word Semicolon c ∷ text_values vs (text_specifications ss z))) (enclose_body s (word Semicolon j ∷ k) j (entry ShutProcedureDeclaration 0 ∷ after_it a st) from n m (text_statement (marked os) q v j s) (enclosed s _ j) (whole_semicolon j k) f (empty_text os q v j s) (statement os q v s (word Semicolon j ∷ k) j (entry ShutProcedureBody 0 ∷ entry ShutProcedureDeclaration 0 ∷ after_it a st) from n m e f (whole_semicolon j k))
       ∙ ap (λ z. opens MBody (first_statement s j) ∷ text_statement (marked os) q v j s (shuts MBody (last_statement s j) ∷ shuts MProcedure (last_statement s from) ∷ z)) (take_end a j k st _ m)))
 
   declarations : (os : List Name) (p : Places) (w : Where) (xs : Declarations) (k : List Symbol) (st : List StackEntry) (l n m : ℕ) → w.owns ≡ n → n + owns_in_declarations xs ≡ m → Headless k → pass3 (spell_declarations xs k) (entry GMoreDeclarations 0 ∷ st) (at l n) ≡ text_declarations (marked os) p w xs (pass3 k st (at (last_declarations l xs) m))
@@ -300,7 +300,7 @@ mutual
       first_left os p q.left q.becomes (spell_lefts qs (spell_expr x k)) h st l n
       ∙ ap (λ y. h ++ text_left (marked os) p q.left (word Becomes q.becomes ∷ y)) (right os p qs x k st q.becomes n ends.expr ∙ ap (λ b. text_lefts (marked os) p qs (text_expr (marked os) p x (pass3 k st (at (last_expr x) b)))) (no_owns n m f))
   basic os p w (Jump i x) k h next st l n m e f ends =
-      ap (λ y. h ++ (opens MGoTo i ∷ word Goto i ∷ y)) (expr os p WExpression (entry GShutGoTo 0 ∷ st) x k false i n ends.expr ∙ ap (text_expr (marked os) p x) (shut_go_to k st (at (last_expr x) n) (comes_of ends.expr) ∙ ap (λ b. shuts MGoTo (last_expr x) ∷ pass3 k st (at (last_expr x) b)) (no_owns n m f)))
+      ap (λ y. h ++ (opens MGoTo i ∷ word Goto i ∷ y)) (expr os p WExpression (entry ShutGoTo 0 ∷ st) x k false i n ends.expr ∙ ap (text_expr (marked os) p x) (shut_go_to k st (at (last_expr x) n) (comes_of ends.expr) ∙ ap (λ b. shuts MGoTo (last_expr x) ∷ pass3 k st (at (last_expr x) b)) (no_owns n m f)))
   basic os p w (CallStatement (Alone x)) k h next st l n m e f ends = ends.name h (ident x) st x.line n ∙ ap (λ b. h ++ (ident x ∷ pass3 k st (at x.line b))) (no_owns n m f)
   basic os p w (CallStatement (WithActuals x i a more j)) k h next st l n m e f ends =
       ap (λ y. h ++ (ident x ∷ word LeftParenthesis i ∷ y)) (called os p (expected_kinds (p x.number).what) a more j st k i n
@@ -310,24 +310,24 @@ mutual
   conditional : (os : List Name) (p : Places) (w : Where) (x : Conditional) (k : List Symbol) (next : ℕ) (st : List StackEntry) (l n m : ℕ) → w.owns ≡ n → n + count_owns (owns_of_conditional x []) ≡ m → EndsWhole k next → pass3 (spell_conditional x k) (entry GStatement 0 ∷ st) (at l n) ≡ text_conditional (marked os) p w next x (pass3 k st (at (last_conditional x) m))
   conditional os p w (IfThen ls i y c u) k next st l n m e f ends =
       if_taken ls i (spell_expr y (word Then c ∷ spell_unconditional u k)) st l n
-      ∙ ap (λ z. opens MConditional (first_labelled ls i) ∷ text_labels ls (word If i ∷ z)) (expr os p WExpression (entry GThen 0 ∷ entry GBranch 0 ∷ entry GShutConditionalStatement 0 ∷ st) y (word Then c ∷ spell_unconditional u k) false i n (ends_then c _)
-      ∙ ap (λ z. text_expr (marked os) p y (word Then c ∷ z)) (branch u k next (entry GShutConditionalStatement 0 ∷ st) c n ends.lower
-      ∙ unconditional os p w u k next (entry GMayElse 0 ∷ entry GShutConditionalStatement 0 ∷ st) c n m e f ends.lower
-      ∙ ap (text_unconditional (marked os) p w next u) (ends.no_else (entry GShutConditionalStatement 0 ∷ st) (last_unconditional u c) m ∙ shut_conditional_statement k st (at (last_unconditional u c) m) (comes_of ends.lower.expr))))
+      ∙ ap (λ z. opens MConditional (first_labelled ls i) ∷ text_labels ls (word If i ∷ z)) (expr os p WExpression (entry GThen 0 ∷ entry GBranch 0 ∷ entry ShutConditionalStatement 0 ∷ st) y (word Then c ∷ spell_unconditional u k) false i n (ends_then c _)
+      ∙ ap (λ z. text_expr (marked os) p y (word Then c ∷ z)) (branch u k next (entry ShutConditionalStatement 0 ∷ st) c n ends.lower
+      ∙ unconditional os p w u k next (entry GMayElse 0 ∷ entry ShutConditionalStatement 0 ∷ st) c n m e f ends.lower
+      ∙ ap (text_unconditional (marked os) p w next u) (ends.no_else (entry ShutConditionalStatement 0 ∷ st) (last_unconditional u c) m ∙ shut_conditional_statement k st (at (last_unconditional u c) m) (comes_of ends.lower.expr))))
   conditional os p w (IfElse ls i y c u j s) k next st l n m e f ends =
       let rest = spell_statement s k in
       let n2 = n + owns_in_unconditional u in
       if_taken ls i (spell_expr y (word Then c ∷ spell_unconditional u (word Else j ∷ rest))) st l n
-      ∙ ap (λ z. opens MConditional (first_labelled ls i) ∷ text_labels ls (word If i ∷ z)) (expr os p WExpression (entry GThen 0 ∷ entry GBranch 0 ∷ entry GShutConditionalStatement 0 ∷ st) y (word Then c ∷ spell_unconditional u (word Else j ∷ rest)) false i n (ends_then c _)
-      ∙ ap (λ z. text_expr (marked os) p y (word Then c ∷ z)) (branch u (word Else j ∷ rest) j (entry GShutConditionalStatement 0 ∷ st) c n (statement_else j rest)
-      ∙ unconditional os p w u (word Else j ∷ rest) j (entry GMayElse 0 ∷ entry GShutConditionalStatement 0 ∷ st) c n n2 e refl (statement_else j rest)
-      ∙ ap (λ z. text_unconditional (marked os) p w j u (word Else j ∷ z)) (statement os p (further w (numbers_unconditional u) (owns_in_unconditional u)) s k next (entry GShutConditionalStatement 0 ∷ st) j n2 m (ap (λ b. b + owns_in_unconditional u) e) (omega (arith, f, owns_unconditional u (owns_of_statement s []))) ends
+      ∙ ap (λ z. opens MConditional (first_labelled ls i) ∷ text_labels ls (word If i ∷ z)) (expr os p WExpression (entry GThen 0 ∷ entry GBranch 0 ∷ entry ShutConditionalStatement 0 ∷ st) y (word Then c ∷ spell_unconditional u (word Else j ∷ rest)) false i n (ends_then c _)
+      ∙ ap (λ z. text_expr (marked os) p y (word Then c ∷ z)) (branch u (word Else j ∷ rest) j (entry ShutConditionalStatement 0 ∷ st) c n (statement_else j rest)
+      ∙ unconditional os p w u (word Else j ∷ rest) j (entry GMayElse 0 ∷ entry ShutConditionalStatement 0 ∷ st) c n n2 e refl (statement_else j rest)
+      ∙ ap (λ z. text_unconditional (marked os) p w j u (word Else j ∷ z)) (statement os p (further w (numbers_unconditional u) (owns_in_unconditional u)) s k next (entry ShutConditionalStatement 0 ∷ st) j n2 m (ap (λ b. b + owns_in_unconditional u) e) (omega (arith, f, owns_unconditional u (owns_of_statement s []))) ends
       ∙ ap (text_statement (marked os) p (further w (numbers_unconditional u) (owns_in_unconditional u)) next s) (shut_conditional_statement k st (at (last_statement s j) m) (comes_of ends.lower.expr)))))
   conditional os p w (IfLoop ls i y c x) k next st l n m e f ends =
       if_taken ls i (spell_expr y (word Then c ∷ spell_loop x k)) st l n
-      ∙ ap (λ z. opens MConditional (first_labelled ls i) ∷ text_labels ls (word If i ∷ z)) (expr os p WExpression (entry GThen 0 ∷ entry GBranch 0 ∷ entry GShutConditionalStatement 0 ∷ st) y (word Then c ∷ spell_loop x k) false i n (ends_then c _)
-      ∙ ap (λ z. text_expr (marked os) p y (word Then c ∷ z)) (loop_branch x k (entry GShutConditionalStatement 0 ∷ st) c n
-      ∙ loop os p w x k next (entry GShutConditionalStatement 0 ∷ st) c n m e f ends
+      ∙ ap (λ z. opens MConditional (first_labelled ls i) ∷ text_labels ls (word If i ∷ z)) (expr os p WExpression (entry GThen 0 ∷ entry GBranch 0 ∷ entry ShutConditionalStatement 0 ∷ st) y (word Then c ∷ spell_loop x k) false i n (ends_then c _)
+      ∙ ap (λ z. text_expr (marked os) p y (word Then c ∷ z)) (loop_branch x k (entry ShutConditionalStatement 0 ∷ st) c n
+      ∙ loop os p w x k next (entry ShutConditionalStatement 0 ∷ st) c n m e f ends
       ∙ ap (text_loop (marked os) p w next x) (shut_conditional_statement k st (at (last_loop x) m) (comes_of ends.lower.expr))))
 
   loop : (os : List Name) (p : Places) (w : Where) (x : Loop) (k : List Symbol) (next : ℕ) (st : List StackEntry) (l n m : ℕ) → w.owns ≡ n → n + count_owns (owns_of_loop x []) ≡ m → EndsWhole k next → pass3 (spell_loop x k) (entry GStatement 0 ∷ st) (at l n) ≡ text_loop (marked os) p w next x (pass3 k st (at (last_loop x) m))
@@ -336,7 +336,7 @@ mutual
       let v = further w (entries_numbers (turn_entries s)) 0 in
       for_taken ls i (ident x ∷ word Becomes j ∷ spell_turns u (spell_next_turns us (word Do d ∷ spell_statement s k))) st l n
       ∙ ap (λ z. opens MFor (first_labelled ls i) ∷ text_labels ls (word For i ∷ ident x ∷ word Becomes j ∷ z)) (turns os p u us d (spell_statement s k) st j n
-      ∙ ap (λ z. text_turns (marked os) p u (text_next_turns (marked os) p us (word Do d ∷ z))) (enclose_controlled s k next (entry GShutForStatement 0 ∷ st) d n m (text_statement (marked os) q v next s) (enclosed s k next) ends f (empty_text os q v next s) (statement os q v s k next (entry GShutControlledStatement 0 ∷ entry GShutForStatement 0 ∷ st) d n m (omega (arith, e)) f ends)
+      ∙ ap (λ z. text_turns (marked os) p u (text_next_turns (marked os) p us (word Do d ∷ z))) (enclose_controlled s k next (entry ShutForStatement 0 ∷ st) d n m (text_statement (marked os) q v next s) (enclosed s k next) ends f (empty_text os q v next s) (statement os q v s k next (entry ShutControlledStatement 0 ∷ entry ShutForStatement 0 ∷ st) d n m (omega (arith, e)) f ends)
       ∙ ap (λ z. opens MControlled (first_statement s next) ∷ text_statement (marked os) q v next s (shuts MControlled (last_statement s next) ∷ z)) (shut_for_statement k st (at (last_statement s d) m) (comes_of ends.lower.expr))))
 
 -- a program
@@ -359,9 +359,9 @@ labels_of_it (x ∷ ls) g k st op l n = ap (λ w. sym Declaring x.name.number x.
 program : (os : List Name) (p : Places) (w : Where) (ls : List LabelPlace) (g : Group) (end : ℕ) → w.owns ≡ 0 → pass3_text (spell_program (MkProgram ls g end)) ≡ opens MProgram (first_labelled ls (group_begin g)) ∷ text_labels ls (text_group (marked os) p w g (shuts MProgram (group_end g) ∷ sym TextEnd (count_owns (owns_of_group g [])) end ∷ []))
 program os p w ls g end e =
     let k = word TextEnd end ∷ [] in
-    open_program (spell_labels ls (spell_group g k)) (first_labelled ls (group_begin g)) false (entry GProgram 0 ∷ entry GShutProgram 0 ∷ entry GTextEnd 0 ∷ []) (at 0 0) (begins_program ls g k)
-    ∙ ap (λ z. opens MProgram (first_labelled ls (group_begin g)) ∷ z) (labels_of_it ls g k (entry GShutProgram 0 ∷ entry GTextEnd 0 ∷ []) true 0 0
-    ∙ ap (text_labels ls) (group os p w g k [] (entry GShutProgram 0 ∷ entry GTextEnd 0 ∷ []) (last_labelled ls 0) 0 (count_owns (owns_of_group g [])) e (omega arith) (word TextEnd end, ([], refl))))
+    open_program (spell_labels ls (spell_group g k)) (first_labelled ls (group_begin g)) false (entry GProgram 0 ∷ entry ShutProgram 0 ∷ entry GTextEnd 0 ∷ []) (at 0 0) (begins_program ls g k)
+    ∙ ap (λ z. opens MProgram (first_labelled ls (group_begin g)) ∷ z) (labels_of_it ls g k (entry ShutProgram 0 ∷ entry GTextEnd 0 ∷ []) true 0 0
+    ∙ ap (text_labels ls) (group os p w g k [] (entry ShutProgram 0 ∷ entry GTextEnd 0 ∷ []) (last_labelled ls 0) 0 (count_owns (owns_of_group g [])) e (omega arith) (word TextEnd end, ([], refl))))
 
 -- what the pass writes of the spelling of a program is its text 3
 pub program_text : (t : Program) → pass3_text (spell_program t) ≡ text3 t

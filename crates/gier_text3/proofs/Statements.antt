@@ -15,7 +15,7 @@ use Rattle.gier_tree.specs.OwnCount.{owns_of_declaration, owns_of_declarations, 
 use Rattle.gier_tree.specs.Written.{Text, Marked, opens, shuts, leading_tag, text_name, text_expr, text_call, text_element, text_actual, text_actuals, text_subscripts, Expected, expected_kinds, further_expected}
 use Rattle.gier_tree.specs.Texts.{next_names, names_as, own_place, next_owns, owns_as, text_bound, text_pair, text_pairs, text_segment, text_segments, text_constant, text_fixed_pair, text_further_pairs, text_fixed, fixed_count, text_fixeds, text_switch_element, text_switch_elements, text_formals, text_values, text_specifications, text_heading, text_labels, text_left, text_lefts, text_turn, text_turns, text_next_turns, text_call_statement, next_line, Where, further, behind_statement, behind_declaration, behind_declarations, inner, text_declaration, text_declarations, text_group, text_statements, text_statement, text_unconditional, text_basic, text_conditional, text_loop}
 use Rattle.gier_tree.specs.Trees.{Name, Adding, Add, Subtract, Expr, OneSimple, IfExpr, Call, Alone, WithActuals, Element, Subscripted, Actual, Actuals, Exprs, NoExprs, MoreExprs, NextName, Names, MkNames, ValueType, IntegerType, BooleanType, TypeWord, BoundPair, MkPair, NextPair, Segment, MkSegment, NextSegment, Constant, Unsigned, WithSign, FixedPair, MkFixedPair, Further, NoFurther, MoreFurther, FurtherPairs, most_further, FixedSegment, MkFixed, NextFixed, Formals, NoFormals, FormalList, ValuePart, NoValues, ValueList, Specifier, ValueSpec, ArraySpec, LabelSpec, SwitchSpec, StringSpec, ProcedureSpec, FunctionSpec, Specification, Heading, MkHeading, LabelPlace, LeftSide, OneName, LeftElement, LeftPart, Turns, OneValue, StepUntil, WhileTrue, NextTurns, Declaration, DeclareType, DeclareOwn, DeclareArrays, DeclareOwnArrays, DeclareSwitch, DeclareProcedure, Declarations, NoDeclarations, MoreDeclarations, Group, MkBlock, MkCompound, Statements, NoStatements, MoreStatements, Statement, OneUnconditional, OneConditional, OneLoop, Unconditional, MkUnconditional, Basic, OneGroup, Assign, Jump, CallStatement, Dummy, Conditional, IfThen, IfElse, IfLoop, Loop, MkLoop, Program, MkProgram}
-use Rattle.gier_grammar.specs.declared.grammar_symbol.GrammarSymbol.TheVariants.{OpenProgram as GOpenProgram, OpenArraySegment as GOpenArraySegment, OpenProcedureBody as GOpenProcedureBody, OpenControlledStatement as GOpenControlledStatement, OpenActual as GOpenActual, OpenSubscript as GOpenSubscript, OpenBound as GOpenBound, OpenSwitchElement as GOpenSwitchElement, OpenForElement as GOpenForElement, ShutProgram as GShutProgram, ShutBlock as GShutBlock, ShutCompound as GShutCompound, ShutTypeDeclaration as GShutTypeDeclaration, ShutArraySegment as GShutArraySegment, ShutSwitchDeclaration as GShutSwitchDeclaration, ShutProcedureDeclaration as GShutProcedureDeclaration, ShutProcedureBody as GShutProcedureBody, ShutForStatement as GShutForStatement, ShutControlledStatement as GShutControlledStatement, ShutConditionalStatement as GShutConditionalStatement, ShutActual as GShutActual, ShutSubscript as GShutSubscript, ShutBound as GShutBound, ShutSwitchElement as GShutSwitchElement, ShutForElement as GShutForElement, ShutGoTo as GShutGoTo, AfterOwnType as GAfterOwnType, Program as GProgram, ProgramColon as GProgramColon, TextEnd as GTextEnd, AfterBegin as GAfterBegin, BlockTail as GBlockTail, CompoundTail as GCompoundTail, FirstDeclared as GFirstDeclared, Declared as GDeclared, MoreDeclarations as GMoreDeclarations, OwnType as GOwnType, OwnName as GOwnName, MoreOwnNames as GMoreOwnNames, FixedBounds as GFixedBounds, FixedColon as GFixedColon, MorePairs as GMorePairs, MoreFixedSegments as GMoreFixedSegments, AfterType as GAfterType, Name as GName, MoreNames as GMoreNames, Bounds as GBounds, BoundColon as GBoundColon, BoundTail as GBoundTail, MoreSegments as GMoreSegments, SwitchBecomes as GSwitchBecomes, MoreSwitchElements as GMoreSwitchElements, MayFormals as GMayFormals, Formal as GFormal, FormalTail as GFormalTail, Heading as GHeading, MayValues as GMayValues, ValueName as GValueName, MoreValueNames as GMoreValueNames, Semicolon as GSemicolon, MoreSpecifications as GMoreSpecifications, MaySpecifier as GMaySpecifier, SpecifiedName as GSpecifiedName, MoreSpecifiedNames as GMoreSpecifiedNames, Statement as GStatement, AfterName as GAfterName, Branch as GBranch, AfterBranchName as GAfterBranchName, MayElse as GMayElse, ForVariable as GForVariable, ForBecomes as GForBecomes, MayStep as GMayStep, ForTail as GForTail, Until as GUntil, Becomes as GBecomes, AfterRightElement as GAfterRightElement, Right as GRight, Expression as GExpression, Then as GThen, MaySign as GMaySign, Number as GNumber, SubscriptTail as GSubscriptTail, Actual as GActual, ActualTail as GActualTail}
+use Rattle.gier_grammar.specs.declared.grammar_symbol.GrammarSymbol.TheVariants.{OpenProgram, OpenArraySegment, OpenProcedureBody, OpenControlledStatement, OpenActual, OpenSubscript, OpenBound, OpenSwitchElement, OpenForElement, ShutProgram, ShutBlock, ShutCompound, ShutTypeDeclaration, ShutArraySegment, ShutSwitchDeclaration, ShutProcedureDeclaration, ShutProcedureBody, ShutForStatement, ShutControlledStatement, ShutConditionalStatement, ShutActual, ShutSubscript, ShutBound, ShutSwitchElement, ShutForElement, ShutGoTo, AfterOwnType as GAfterOwnType, Program as GProgram, ProgramColon as GProgramColon, TextEnd as GTextEnd, AfterBegin as GAfterBegin, BlockTail as GBlockTail, CompoundTail as GCompoundTail, FirstDeclared as GFirstDeclared, Declared as GDeclared, MoreDeclarations as GMoreDeclarations, OwnType as GOwnType, OwnName as GOwnName, MoreOwnNames as GMoreOwnNames, FixedBounds as GFixedBounds, FixedColon as GFixedColon, MorePairs as GMorePairs, MoreFixedSegments as GMoreFixedSegments, AfterType as GAfterType, Name as GName, MoreNames as GMoreNames, Bounds as GBounds, BoundColon as GBoundColon, BoundTail as GBoundTail, MoreSegments as GMoreSegments, SwitchBecomes as GSwitchBecomes, MoreSwitchElements as GMoreSwitchElements, MayFormals as GMayFormals, Formal as GFormal, FormalTail as GFormalTail, Heading as GHeading, MayValues as GMayValues, ValueName as GValueName, MoreValueNames as GMoreValueNames, Semicolon as GSemicolon, MoreSpecifications as GMoreSpecifications, MaySpecifier as GMaySpecifier, SpecifiedName as GSpecifiedName, MoreSpecifiedNames as GMoreSpecifiedNames, Statement as GStatement, AfterName as GAfterName, Branch as GBranch, AfterBranchName as GAfterBranchName, MayElse as GMayElse, ForVariable as GForVariable, ForBecomes as GForBecomes, MayStep as GMayStep, ForTail as GForTail, Until as GUntil, Becomes as GBecomes, AfterRightElement as GAfterRightElement, Right as GRight, Expression as GExpression, Then as GThen, MaySign as GMaySign, Number as GNumber, SubscriptTail as GSubscriptTail, Actual as GActual, ActualTail as GActualTail}
 use Rattle.gier_grammar.specs.declared.production.Production.TheVariants.{NextPair as RNextPair}
 use Rattle.gier_grammar.specs.declared.stack_entry.StackEntry.{StackEntry}
 use Rattle.gier_grammar.specs.declared.parse_table.ParseAction.TheVariants.{Error, Expand}
@@ -26,7 +26,7 @@ use Rattle.gier_text3.proofs.Expressions.{marked, begins_expr, expr, called, sub
 use Rattle.std.proofs.lemmas.List.{append_assoc}
 use Rattle.gier_text3.proofs.Parts.{comes_of}
 
--- symbols are held, or an identifier behind them
+-- symbols are looked ahead, or an identifier behind them
 abbrev pub lookahead : List Symbol → (last owns : ℕ) → WriterState
 lookahead h l n = record { lookahead = h; name = None; last = l; owns = n }
 
@@ -74,7 +74,7 @@ pub statements_end : (ss : Statements) (d : ℕ) (k : List Symbol) → EndsWhole
 statements_end NoStatements d k = whole_end d k
 statements_end (MoreStatements j s ss) d k = whole_semicolon j _
 
--- labels are held
+-- labels are looked ahead
 joined_labels : (h r : List Symbol) (a b : Symbol) → ((h ++ a ∷ []) ++ b ∷ []) ++ r ≡ h ++ a ∷ b ∷ r
 joined_labels h r a b = append_assoc (h ++ a ∷ []) (b ∷ []) r ∙ append_assoc h (a ∷ []) (b ∷ r)
 
@@ -98,8 +98,8 @@ labels_line [] i = refl
 labels_line (x ∷ ls) i = refl
 
 -- a construct is opened before its labels
-pub if_taken : (ls : List LabelPlace) (i : ℕ) (k : List Symbol) (st : List StackEntry) (l n : ℕ) → pass3 (spell_labels ls (word If i ∷ k)) (entry GStatement 0 ∷ st) (at l n) ≡ opens MConditional (first_labelled ls i) ∷ text_labels ls (word If i ∷ pass3 k (entry GExpression 0 ∷ entry GThen 0 ∷ entry GBranch 0 ∷ entry GShutConditionalStatement 0 ∷ st) (at i n))
-if_taken ls i k st l n = labels_ahead ls (word If i ∷ k) [] st l n ∙ ap (λ a. opens MConditional a ∷ text_labels ls [] ++ (word If i ∷ pass3 k (entry GExpression 0 ∷ entry GThen 0 ∷ entry GBranch 0 ∷ entry GShutConditionalStatement 0 ∷ st) (at i n))) (labels_line ls i) ∙ ap (λ w. opens MConditional (first_labelled ls i) ∷ w) (labels_text ls _)
+pub if_taken : (ls : List LabelPlace) (i : ℕ) (k : List Symbol) (st : List StackEntry) (l n : ℕ) → pass3 (spell_labels ls (word If i ∷ k)) (entry GStatement 0 ∷ st) (at l n) ≡ opens MConditional (first_labelled ls i) ∷ text_labels ls (word If i ∷ pass3 k (entry GExpression 0 ∷ entry GThen 0 ∷ entry GBranch 0 ∷ entry ShutConditionalStatement 0 ∷ st) (at i n))
+if_taken ls i k st l n = labels_ahead ls (word If i ∷ k) [] st l n ∙ ap (λ a. opens MConditional a ∷ text_labels ls [] ++ (word If i ∷ pass3 k (entry GExpression 0 ∷ entry GThen 0 ∷ entry GBranch 0 ∷ entry ShutConditionalStatement 0 ∷ st) (at i n))) (labels_line ls i) ∙ ap (λ w. opens MConditional (first_labelled ls i) ∷ w) (labels_text ls _)
 
 pub for_taken : (ls : List LabelPlace) (i : ℕ) (k : List Symbol) (st : List StackEntry) (l n : ℕ) → pass3 (spell_labels ls (word For i ∷ k)) (entry GStatement 0 ∷ st) (at l n) ≡ opens MFor (first_labelled ls i) ∷ text_labels ls (word For i ∷ pass3 k (entry GForVariable 0 ∷ entry GForBecomes 0 ∷ st) (at i n))
 for_taken ls i k st l n = labels_ahead ls (word For i ∷ k) [] st l n ∙ ap (λ a. opens MFor a ∷ text_labels ls [] ++ (word For i ∷ pass3 k (entry GForVariable 0 ∷ entry GForBecomes 0 ∷ st) (at i n))) (labels_line ls i) ∙ ap (λ w. opens MFor (first_labelled ls i) ∷ w) (labels_text ls _)
@@ -223,18 +223,18 @@ is_empty s = false
 pub no_owns : (n m : ℕ) → n + 0 ≡ m → n ≡ m
 no_owns n m e = omega (arith, e)
 
-empty_controlled : (k : List Symbol) (next : ℕ) (st : List StackEntry) (c : WriterState) → Begins k next → pass3_from true k (entry GShutControlledStatement 0 ∷ st) c ≡ shuts MControlled next ∷ pass3 k st c
+empty_controlled : (k : List Symbol) (next : ℕ) (st : List StackEntry) (c : WriterState) → Begins k next → pass3_from true k (entry ShutControlledStatement 0 ∷ st) c ≡ shuts MControlled next ∷ pass3 k st c
 empty_controlled k next st c b = rw (b.is) (ap (λ i. shuts MControlled i ∷ pass3 (b.first ∷ b.rest) st c) b.on)
 
-enclose_controlled_by : (s : Statement) (k : List Symbol) (next : ℕ) (st : List StackEntry) (l n m : ℕ) (text : List Symbol → List Symbol) → HasSymbols s k next → EndsWhole k next → pass3 (spell_statement s k) (entry GStatement 0 ∷ entry GShutControlledStatement 0 ∷ st) (at l n) ≡ text (pass3 k (entry GShutControlledStatement 0 ∷ st) (at (last_statement s l) m)) → pass3 (spell_statement s k) (entry GOpenControlledStatement 0 ∷ entry GStatement 0 ∷ entry GShutControlledStatement 0 ∷ st) (at l n) ≡ opens MControlled (first_statement s next) ∷ text (shuts MControlled (last_statement s next) ∷ pass3 k st (at (last_statement s l) m))
+enclose_controlled_by : (s : Statement) (k : List Symbol) (next : ℕ) (st : List StackEntry) (l n m : ℕ) (text : List Symbol → List Symbol) → HasSymbols s k next → EndsWhole k next → pass3 (spell_statement s k) (entry GStatement 0 ∷ entry ShutControlledStatement 0 ∷ st) (at l n) ≡ text (pass3 k (entry ShutControlledStatement 0 ∷ st) (at (last_statement s l) m)) → pass3 (spell_statement s k) (entry OpenControlledStatement 0 ∷ entry GStatement 0 ∷ entry ShutControlledStatement 0 ∷ st) (at l n) ≡ opens MControlled (first_statement s next) ∷ text (shuts MControlled (last_statement s next) ∷ pass3 k st (at (last_statement s l) m))
 enclose_controlled_by s k next st l n m text x e go_on =
-    open_controlled_statement (spell_statement s k) (first_statement s next) false (entry GStatement 0 ∷ entry GShutControlledStatement 0 ∷ st) (at l n) x.begins
-    ∙ ap (λ w. opens MControlled (first_statement s next) ∷ w) (x.any (entry GShutControlledStatement 0 ∷ st) l n ∙ go_on ∙ ap text (shut_controlled_statement k st (at (last_statement s l) m) (comes_of e.lower.expr) ∙ ap (λ a. shuts MControlled a ∷ pass3 k st (at (last_statement s l) m)) (x.last l next)))
+    open_controlled_statement (spell_statement s k) (first_statement s next) false (entry GStatement 0 ∷ entry ShutControlledStatement 0 ∷ st) (at l n) x.begins
+    ∙ ap (λ w. opens MControlled (first_statement s next) ∷ w) (x.any (entry ShutControlledStatement 0 ∷ st) l n ∙ go_on ∙ ap text (shut_controlled_statement k st (at (last_statement s l) m) (comes_of e.lower.expr) ∙ ap (λ a. shuts MControlled a ∷ pass3 k st (at (last_statement s l) m)) (x.last l next)))
 
-pub enclose_controlled : (s : Statement) (k : List Symbol) (next : ℕ) (st : List StackEntry) (l n m : ℕ) (text : List Symbol → List Symbol) → Enclosed s k next → EndsWhole k next → n + owns_in_statement s ≡ m → (is_empty s ≡ true → (w : List Symbol) → text w ≡ w) → pass3 (spell_statement s k) (entry GStatement 0 ∷ entry GShutControlledStatement 0 ∷ st) (at l n) ≡ text (pass3 k (entry GShutControlledStatement 0 ∷ st) (at (last_statement s l) m)) → pass3 (spell_statement s k) (entry GOpenControlledStatement 0 ∷ entry GStatement 0 ∷ entry GShutControlledStatement 0 ∷ st) (at l n) ≡ opens MControlled (first_statement s next) ∷ text (shuts MControlled (last_statement s next) ∷ pass3 k st (at (last_statement s l) m))
+pub enclose_controlled : (s : Statement) (k : List Symbol) (next : ℕ) (st : List StackEntry) (l n m : ℕ) (text : List Symbol → List Symbol) → Enclosed s k next → EndsWhole k next → n + owns_in_statement s ≡ m → (is_empty s ≡ true → (w : List Symbol) → text w ≡ w) → pass3 (spell_statement s k) (entry GStatement 0 ∷ entry ShutControlledStatement 0 ∷ st) (at l n) ≡ text (pass3 k (entry ShutControlledStatement 0 ∷ st) (at (last_statement s l) m)) → pass3 (spell_statement s k) (entry OpenControlledStatement 0 ∷ entry GStatement 0 ∷ entry ShutControlledStatement 0 ∷ st) (at l n) ≡ opens MControlled (first_statement s next) ∷ text (shuts MControlled (last_statement s next) ∷ pass3 k st (at (last_statement s l) m))
 enclose_controlled (OneUnconditional (MkUnconditional [] Dummy)) k next st l n m text x e owns same go_on =
-    open_controlled_statement k next false (entry GStatement 0 ∷ entry GShutControlledStatement 0 ∷ st) (at l n) e.lower.begins
-    ∙ ap (λ w. opens MControlled next ∷ w) (e.lower.none true [] (entry GShutControlledStatement 0 ∷ st) l n ∙ empty_controlled k next st (at l n) e.lower.begins ∙ ap (λ a. shuts MControlled next ∷ pass3 k st (at l a)) (no_owns n m owns) ∙ back (same refl _))
+    open_controlled_statement k next false (entry GStatement 0 ∷ entry ShutControlledStatement 0 ∷ st) (at l n) e.lower.begins
+    ∙ ap (λ w. opens MControlled next ∷ w) (e.lower.none true [] (entry ShutControlledStatement 0 ∷ st) l n ∙ empty_controlled k next st (at l n) e.lower.begins ∙ ap (λ a. shuts MControlled next ∷ pass3 k st (at l a)) (no_owns n m owns) ∙ back (same refl _))
 enclose_controlled (OneUnconditional (MkUnconditional (z ∷ ls) v)) k next st l n m text x e owns same go_on = enclose_controlled_by (OneUnconditional (MkUnconditional (z ∷ ls) v)) k next st l n m text x e go_on
 enclose_controlled (OneUnconditional (MkUnconditional [] (OneGroup (MkBlock i d c ds t ss j)))) k next st l n m text x e owns same go_on = enclose_controlled_by (OneUnconditional (MkUnconditional [] (OneGroup (MkBlock i d c ds t ss j)))) k next st l n m text x e go_on
 enclose_controlled (OneUnconditional (MkUnconditional [] (OneGroup (MkCompound i t ss j)))) k next st l n m text x e owns same go_on = enclose_controlled_by (OneUnconditional (MkUnconditional [] (OneGroup (MkCompound i t ss j)))) k next st l n m text x e go_on
@@ -251,18 +251,18 @@ enclose_controlled (OneConditional (IfLoop (y ∷ ls) i z c f)) k next st l n m 
 enclose_controlled (OneLoop (MkLoop [] i z j u us d t)) k next st l n m text x e owns same go_on = enclose_controlled_by (OneLoop (MkLoop [] i z j u us d t)) k next st l n m text x e go_on
 enclose_controlled (OneLoop (MkLoop (y ∷ ls) i z j u us d t)) k next st l n m text x e owns same go_on = enclose_controlled_by (OneLoop (MkLoop (y ∷ ls) i z j u us d t)) k next st l n m text x e go_on
 
-empty_body : (k : List Symbol) (next : ℕ) (st : List StackEntry) (c : WriterState) → Begins k next → pass3_from true k (entry GShutProcedureBody 0 ∷ st) c ≡ shuts MBody next ∷ pass3 k st c
+empty_body : (k : List Symbol) (next : ℕ) (st : List StackEntry) (c : WriterState) → Begins k next → pass3_from true k (entry ShutProcedureBody 0 ∷ st) c ≡ shuts MBody next ∷ pass3 k st c
 empty_body k next st c b = rw (b.is) (ap (λ i. shuts MBody i ∷ pass3 (b.first ∷ b.rest) st c) b.on)
 
-enclose_body_by : (s : Statement) (k : List Symbol) (next : ℕ) (st : List StackEntry) (l n m : ℕ) (text : List Symbol → List Symbol) → HasSymbols s k next → EndsWhole k next → pass3 (spell_statement s k) (entry GStatement 0 ∷ entry GShutProcedureBody 0 ∷ st) (at l n) ≡ text (pass3 k (entry GShutProcedureBody 0 ∷ st) (at (last_statement s l) m)) → pass3 (spell_statement s k) (entry GOpenProcedureBody 0 ∷ entry GStatement 0 ∷ entry GShutProcedureBody 0 ∷ st) (at l n) ≡ opens MBody (first_statement s next) ∷ text (shuts MBody (last_statement s next) ∷ pass3 k st (at (last_statement s l) m))
+enclose_body_by : (s : Statement) (k : List Symbol) (next : ℕ) (st : List StackEntry) (l n m : ℕ) (text : List Symbol → List Symbol) → HasSymbols s k next → EndsWhole k next → pass3 (spell_statement s k) (entry GStatement 0 ∷ entry ShutProcedureBody 0 ∷ st) (at l n) ≡ text (pass3 k (entry ShutProcedureBody 0 ∷ st) (at (last_statement s l) m)) → pass3 (spell_statement s k) (entry OpenProcedureBody 0 ∷ entry GStatement 0 ∷ entry ShutProcedureBody 0 ∷ st) (at l n) ≡ opens MBody (first_statement s next) ∷ text (shuts MBody (last_statement s next) ∷ pass3 k st (at (last_statement s l) m))
 enclose_body_by s k next st l n m text x e go_on =
-    open_procedure_body (spell_statement s k) (first_statement s next) false (entry GStatement 0 ∷ entry GShutProcedureBody 0 ∷ st) (at l n) x.begins
-    ∙ ap (λ w. opens MBody (first_statement s next) ∷ w) (x.any (entry GShutProcedureBody 0 ∷ st) l n ∙ go_on ∙ ap text (shut_procedure_body k st (at (last_statement s l) m) (comes_of e.lower.expr) ∙ ap (λ a. shuts MBody a ∷ pass3 k st (at (last_statement s l) m)) (x.last l next)))
+    open_procedure_body (spell_statement s k) (first_statement s next) false (entry GStatement 0 ∷ entry ShutProcedureBody 0 ∷ st) (at l n) x.begins
+    ∙ ap (λ w. opens MBody (first_statement s next) ∷ w) (x.any (entry ShutProcedureBody 0 ∷ st) l n ∙ go_on ∙ ap text (shut_procedure_body k st (at (last_statement s l) m) (comes_of e.lower.expr) ∙ ap (λ a. shuts MBody a ∷ pass3 k st (at (last_statement s l) m)) (x.last l next)))
 
-pub enclose_body : (s : Statement) (k : List Symbol) (next : ℕ) (st : List StackEntry) (l n m : ℕ) (text : List Symbol → List Symbol) → Enclosed s k next → EndsWhole k next → n + owns_in_statement s ≡ m → (is_empty s ≡ true → (w : List Symbol) → text w ≡ w) → pass3 (spell_statement s k) (entry GStatement 0 ∷ entry GShutProcedureBody 0 ∷ st) (at l n) ≡ text (pass3 k (entry GShutProcedureBody 0 ∷ st) (at (last_statement s l) m)) → pass3 (spell_statement s k) (entry GOpenProcedureBody 0 ∷ entry GStatement 0 ∷ entry GShutProcedureBody 0 ∷ st) (at l n) ≡ opens MBody (first_statement s next) ∷ text (shuts MBody (last_statement s next) ∷ pass3 k st (at (last_statement s l) m))
+pub enclose_body : (s : Statement) (k : List Symbol) (next : ℕ) (st : List StackEntry) (l n m : ℕ) (text : List Symbol → List Symbol) → Enclosed s k next → EndsWhole k next → n + owns_in_statement s ≡ m → (is_empty s ≡ true → (w : List Symbol) → text w ≡ w) → pass3 (spell_statement s k) (entry GStatement 0 ∷ entry ShutProcedureBody 0 ∷ st) (at l n) ≡ text (pass3 k (entry ShutProcedureBody 0 ∷ st) (at (last_statement s l) m)) → pass3 (spell_statement s k) (entry OpenProcedureBody 0 ∷ entry GStatement 0 ∷ entry ShutProcedureBody 0 ∷ st) (at l n) ≡ opens MBody (first_statement s next) ∷ text (shuts MBody (last_statement s next) ∷ pass3 k st (at (last_statement s l) m))
 enclose_body (OneUnconditional (MkUnconditional [] Dummy)) k next st l n m text x e owns same go_on =
-    open_procedure_body k next false (entry GStatement 0 ∷ entry GShutProcedureBody 0 ∷ st) (at l n) e.lower.begins
-    ∙ ap (λ w. opens MBody next ∷ w) (e.lower.none true [] (entry GShutProcedureBody 0 ∷ st) l n ∙ empty_body k next st (at l n) e.lower.begins ∙ ap (λ a. shuts MBody next ∷ pass3 k st (at l a)) (no_owns n m owns) ∙ back (same refl _))
+    open_procedure_body k next false (entry GStatement 0 ∷ entry ShutProcedureBody 0 ∷ st) (at l n) e.lower.begins
+    ∙ ap (λ w. opens MBody next ∷ w) (e.lower.none true [] (entry ShutProcedureBody 0 ∷ st) l n ∙ empty_body k next st (at l n) e.lower.begins ∙ ap (λ a. shuts MBody next ∷ pass3 k st (at l a)) (no_owns n m owns) ∙ back (same refl _))
 enclose_body (OneUnconditional (MkUnconditional (z ∷ ls) v)) k next st l n m text x e owns same go_on = enclose_body_by (OneUnconditional (MkUnconditional (z ∷ ls) v)) k next st l n m text x e go_on
 enclose_body (OneUnconditional (MkUnconditional [] (OneGroup (MkBlock i d c ds t ss j)))) k next st l n m text x e owns same go_on = enclose_body_by (OneUnconditional (MkUnconditional [] (OneGroup (MkBlock i d c ds t ss j)))) k next st l n m text x e go_on
 enclose_body (OneUnconditional (MkUnconditional [] (OneGroup (MkCompound i t ss j)))) k next st l n m text x e owns same go_on = enclose_body_by (OneUnconditional (MkUnconditional [] (OneGroup (MkCompound i t ss j)))) k next st l n m text x e go_on
@@ -293,25 +293,25 @@ right os p [] x k st l n e = expr os p WRight st x k false l n e
 right os p (q ∷ qs) x k st l n e = next_left os p q.left q.becomes (spell_lefts qs (spell_expr x k)) st l n ∙ ap (λ w. text_left (marked os) p q.left (word Becomes q.becomes ∷ w)) (right os p qs x k st q.becomes n e)
 
 -- the elements of a for list
-pub turn : (os : List Name) (p : Places) (u : Turns) (k : List Symbol) (st : List StackEntry) (l n : ℕ) → EndsExpr k → Skips (entry GMayStep 0) k → pass3 (spell_turns u k) (entry GOpenForElement 0 ∷ entry GExpression 0 ∷ entry GMayStep 0 ∷ entry GShutForElement 0 ∷ st) (at l n) ≡ text_turns (marked os) p u (pass3 k st (at (last_turns u) n))
+pub turn : (os : List Name) (p : Places) (u : Turns) (k : List Symbol) (st : List StackEntry) (l n : ℕ) → EndsExpr k → Skips (entry GMayStep 0) k → pass3 (spell_turns u k) (entry OpenForElement 0 ∷ entry GExpression 0 ∷ entry GMayStep 0 ∷ entry ShutForElement 0 ∷ st) (at l n) ≡ text_turns (marked os) p u (pass3 k st (at (last_turns u) n))
 turn os p (OneValue x) k st l n e skip =
-    open_for_element (spell_expr x k) (first_expr x) false (entry GExpression 0 ∷ entry GMayStep 0 ∷ entry GShutForElement 0 ∷ st) (at l n) (begins_expr x k)
-    ∙ ap (λ w. opens MForElement (first_expr x) ∷ w) (expr os p WExpression (entry GMayStep 0 ∷ entry GShutForElement 0 ∷ st) x k true l n e ∙ ap (text_expr (marked os) p x) (skip (entry GShutForElement 0 ∷ st) (last_expr x) n ∙ shut_for_element k st (at (last_expr x) n) (comes_of e)))
+    open_for_element (spell_expr x k) (first_expr x) false (entry GExpression 0 ∷ entry GMayStep 0 ∷ entry ShutForElement 0 ∷ st) (at l n) (begins_expr x k)
+    ∙ ap (λ w. opens MForElement (first_expr x) ∷ w) (expr os p WExpression (entry GMayStep 0 ∷ entry ShutForElement 0 ∷ st) x k true l n e ∙ ap (text_expr (marked os) p x) (skip (entry ShutForElement 0 ∷ st) (last_expr x) n ∙ shut_for_element k st (at (last_expr x) n) (comes_of e)))
 turn os p (StepUntil x i y j z) k st l n e skip =
-    open_for_element (spell_expr x (word Step i ∷ spell_expr y (word Until j ∷ spell_expr z k))) (first_expr x) false (entry GExpression 0 ∷ entry GMayStep 0 ∷ entry GShutForElement 0 ∷ st) (at l n) (begins_expr x _)
-    ∙ ap (λ w. opens MForElement (first_expr x) ∷ w) (expr os p WExpression (entry GMayStep 0 ∷ entry GShutForElement 0 ∷ st) x (word Step i ∷ spell_expr y (word Until j ∷ spell_expr z k)) true l n (ends_step i _)
-    ∙ ap (λ w. text_expr (marked os) p x (word Step i ∷ w)) (expr os p WExpression (entry GUntil 0 ∷ entry GExpression 0 ∷ entry GShutForElement 0 ∷ st) y (word Until j ∷ spell_expr z k) false i n (ends_until j _)
-    ∙ ap (λ w. text_expr (marked os) p y (word Until j ∷ w)) (expr os p WExpression (entry GShutForElement 0 ∷ st) z k false j n e ∙ ap (text_expr (marked os) p z) (shut_for_element k st (at (last_expr z) n) (comes_of e)))))
+    open_for_element (spell_expr x (word Step i ∷ spell_expr y (word Until j ∷ spell_expr z k))) (first_expr x) false (entry GExpression 0 ∷ entry GMayStep 0 ∷ entry ShutForElement 0 ∷ st) (at l n) (begins_expr x _)
+    ∙ ap (λ w. opens MForElement (first_expr x) ∷ w) (expr os p WExpression (entry GMayStep 0 ∷ entry ShutForElement 0 ∷ st) x (word Step i ∷ spell_expr y (word Until j ∷ spell_expr z k)) true l n (ends_step i _)
+    ∙ ap (λ w. text_expr (marked os) p x (word Step i ∷ w)) (expr os p WExpression (entry GUntil 0 ∷ entry GExpression 0 ∷ entry ShutForElement 0 ∷ st) y (word Until j ∷ spell_expr z k) false i n (ends_until j _)
+    ∙ ap (λ w. text_expr (marked os) p y (word Until j ∷ w)) (expr os p WExpression (entry ShutForElement 0 ∷ st) z k false j n e ∙ ap (text_expr (marked os) p z) (shut_for_element k st (at (last_expr z) n) (comes_of e)))))
 turn os p (WhileTrue x i y) k st l n e skip =
-    open_for_element (spell_expr x (word While i ∷ spell_expr y k)) (first_expr x) false (entry GExpression 0 ∷ entry GMayStep 0 ∷ entry GShutForElement 0 ∷ st) (at l n) (begins_expr x _)
-    ∙ ap (λ w. opens MForElement (first_expr x) ∷ w) (expr os p WExpression (entry GMayStep 0 ∷ entry GShutForElement 0 ∷ st) x (word While i ∷ spell_expr y k) true l n (ends_while i _)
-    ∙ ap (λ w. text_expr (marked os) p x (word While i ∷ w)) (expr os p WExpression (entry GShutForElement 0 ∷ st) y k false i n e ∙ ap (text_expr (marked os) p y) (shut_for_element k st (at (last_expr y) n) (comes_of e))))
+    open_for_element (spell_expr x (word While i ∷ spell_expr y k)) (first_expr x) false (entry GExpression 0 ∷ entry GMayStep 0 ∷ entry ShutForElement 0 ∷ st) (at l n) (begins_expr x _)
+    ∙ ap (λ w. opens MForElement (first_expr x) ∷ w) (expr os p WExpression (entry GMayStep 0 ∷ entry ShutForElement 0 ∷ st) x (word While i ∷ spell_expr y k) true l n (ends_while i _)
+    ∙ ap (λ w. text_expr (marked os) p x (word While i ∷ w)) (expr os p WExpression (entry ShutForElement 0 ∷ st) y k false i n e ∙ ap (text_expr (marked os) p y) (shut_for_element k st (at (last_expr y) n) (comes_of e))))
 
 turns_end : (us : List NextTurns) (d : ℕ) (k : List Symbol) → EndsExpr (spell_next_turns us (word Do d ∷ k)) × Skips (entry GMayStep 0) (spell_next_turns us (word Do d ∷ k))
 turns_end [] d k = (ends_do d k, λ st l n. refl)
 turns_end (u ∷ us) d k = (ends_comma u.comma _, λ st l n. refl)
 
-pub turns : (os : List Name) (p : Places) (u : Turns) (us : List NextTurns) (d : ℕ) (k : List Symbol) (st : List StackEntry) (l n : ℕ) → pass3 (spell_turns u (spell_next_turns us (word Do d ∷ k))) (entry GOpenForElement 0 ∷ entry GExpression 0 ∷ entry GMayStep 0 ∷ entry GShutForElement 0 ∷ entry GForTail 0 ∷ st) (at l n) ≡ text_turns (marked os) p u (text_next_turns (marked os) p us (word Do d ∷ pass3 k (entry GOpenControlledStatement 0 ∷ entry GStatement 0 ∷ entry GShutControlledStatement 0 ∷ entry GShutForStatement 0 ∷ st) (at d n)))
+pub turns : (os : List Name) (p : Places) (u : Turns) (us : List NextTurns) (d : ℕ) (k : List Symbol) (st : List StackEntry) (l n : ℕ) → pass3 (spell_turns u (spell_next_turns us (word Do d ∷ k))) (entry OpenForElement 0 ∷ entry GExpression 0 ∷ entry GMayStep 0 ∷ entry ShutForElement 0 ∷ entry GForTail 0 ∷ st) (at l n) ≡ text_turns (marked os) p u (text_next_turns (marked os) p us (word Do d ∷ pass3 k (entry OpenControlledStatement 0 ∷ entry GStatement 0 ∷ entry ShutControlledStatement 0 ∷ entry ShutForStatement 0 ∷ st) (at d n)))
 turns os p u [] d k st l n = turn os p u (word Do d ∷ k) (entry GForTail 0 ∷ st) l n (ends_do d k) (λ st l n. refl)
 turns os p u (v ∷ us) d k st l n =
     let rest = spell_turns v.turns (spell_next_turns us (word Do d ∷ k)) in
@@ -319,12 +319,12 @@ turns os p u (v ∷ us) d k st l n =
     ∙ ap (λ w. text_turns (marked os) p u (word Comma v.comma ∷ w)) (turns os p v.turns us d k st v.comma n)
 
 -- the elements of a switch
-pub switch_elements : (os : List Name) (p : Places) (x : Expr) (xs : Exprs) (j : ℕ) (k : List Symbol) (st : List StackEntry) (l n : ℕ) → pass3 (spell_expr x (spell_exprs xs (word Semicolon j ∷ k))) (entry GOpenSwitchElement 0 ∷ entry GExpression 0 ∷ entry GShutSwitchElement 0 ∷ entry GMoreSwitchElements 0 ∷ st) (at l n) ≡ text_switch_element (marked os) p x (text_switch_elements (marked os) p xs (pass3 (word Semicolon j ∷ k) st (at (last_exprs (last_expr x) xs) n)))
+pub switch_elements : (os : List Name) (p : Places) (x : Expr) (xs : Exprs) (j : ℕ) (k : List Symbol) (st : List StackEntry) (l n : ℕ) → pass3 (spell_expr x (spell_exprs xs (word Semicolon j ∷ k))) (entry OpenSwitchElement 0 ∷ entry GExpression 0 ∷ entry ShutSwitchElement 0 ∷ entry GMoreSwitchElements 0 ∷ st) (at l n) ≡ text_switch_element (marked os) p x (text_switch_elements (marked os) p xs (pass3 (word Semicolon j ∷ k) st (at (last_exprs (last_expr x) xs) n)))
 switch_elements os p x NoExprs j k st l n =
-    open_switch_element (spell_expr x (word Semicolon j ∷ k)) (first_expr x) false (entry GExpression 0 ∷ entry GShutSwitchElement 0 ∷ entry GMoreSwitchElements 0 ∷ st) (at l n) (begins_expr x _)
-    ∙ ap (λ w. opens MElement (first_expr x) ∷ w) (expr os p WExpression (entry GShutSwitchElement 0 ∷ entry GMoreSwitchElements 0 ∷ st) x (word Semicolon j ∷ k) true l n (ends_semicolon j k))
+    open_switch_element (spell_expr x (word Semicolon j ∷ k)) (first_expr x) false (entry GExpression 0 ∷ entry ShutSwitchElement 0 ∷ entry GMoreSwitchElements 0 ∷ st) (at l n) (begins_expr x _)
+    ∙ ap (λ w. opens MElement (first_expr x) ∷ w) (expr os p WExpression (entry ShutSwitchElement 0 ∷ entry GMoreSwitchElements 0 ∷ st) x (word Semicolon j ∷ k) true l n (ends_semicolon j k))
 switch_elements os p x (MoreExprs i y ys) j k st l n =
     let rest = spell_expr y (spell_exprs ys (word Semicolon j ∷ k)) in
-    open_switch_element (spell_expr x (word Comma i ∷ rest)) (first_expr x) false (entry GExpression 0 ∷ entry GShutSwitchElement 0 ∷ entry GMoreSwitchElements 0 ∷ st) (at l n) (begins_expr x _)
-    ∙ ap (λ w. opens MElement (first_expr x) ∷ w) (expr os p WExpression (entry GShutSwitchElement 0 ∷ entry GMoreSwitchElements 0 ∷ st) x (word Comma i ∷ rest) true l n (ends_comma i rest)
+    open_switch_element (spell_expr x (word Comma i ∷ rest)) (first_expr x) false (entry GExpression 0 ∷ entry ShutSwitchElement 0 ∷ entry GMoreSwitchElements 0 ∷ st) (at l n) (begins_expr x _)
+    ∙ ap (λ w. opens MElement (first_expr x) ∷ w) (expr os p WExpression (entry ShutSwitchElement 0 ∷ entry GMoreSwitchElements 0 ∷ st) x (word Comma i ∷ rest) true l n (ends_comma i rest)
     ∙ ap (λ w. text_expr (marked os) p x (shuts MElement (last_expr x) ∷ word Comma i ∷ w)) (switch_elements os p y ys j k st i n))

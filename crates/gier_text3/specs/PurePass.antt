@@ -1,4 +1,4 @@
--- What the pass writes of the symbols that come, as a function of what it wants and of what it holds.
+-- Pass 3 as a pure function: what is written of the symbols that come, by what is wanted and by what was looked ahead.
 use Rattle.std.specs.Prelude.{◌==◌, ◌++◌, ℕ, suc, Bool, true, false, List, [], ◌∷◌, Option, None, Some, if◌then◌else◌}
 use Rattle.gier_symbol.specs.declared.symbol.Symbol.{Symbol}
 use Rattle.gier_symbol.specs.declared.tag.Tag.{Tag}
@@ -8,10 +8,8 @@ use Rattle.gier_symbol.specs.Tags.{number_of as tag_number}
 use Rattle.gier_tree.specs.Signs.{sign_of, sign_tag}
 use Rattle.gier_grammar.specs.declared.grammar_symbol.GrammarSymbol.{GrammarSymbol}
 use Rattle.gier_grammar.specs.declared.grammar_symbol.GrammarSymbol.TheVariants.{Program as GProgram, TextEnd as GTextEnd}
-use Rattle.gier_grammar.specs.declared.grammar_symbol.GrammarSymbol.TheVariants.{OpenProgram as GOpenProgram}
-use Rattle.gier_grammar.specs.declared.grammar_symbol.GrammarSymbol.TheVariants.{ShutProgram as GShutProgram}
-use Rattle.gier_grammar.specs.declared.grammar_symbol.GrammarSymbol.TheVariants.{Statement as GStatement, AfterName as GAfterName}
-use Rattle.gier_grammar.specs.declared.grammar_symbol.GrammarSymbol.TheVariants.{Branch as GBranch}
+use Rattle.gier_grammar.specs.declared.grammar_symbol.GrammarSymbol.TheVariants.{OpenProgram, ShutProgram, Statement as GStatement}
+use Rattle.gier_grammar.specs.declared.grammar_symbol.GrammarSymbol.TheVariants.{AfterName as GAfterName, Branch as GBranch}
 use Rattle.gier_grammar.specs.declared.grammar_symbol.GrammarSymbol.TheVariants.{AfterBranchName as GAfterBranchName}
 use Rattle.gier_grammar.specs.declared.grammar_symbol.Mark.{Mark}
 use Rattle.gier_grammar.specs.declared.grammar_symbol.Mark.TheVariants.{Open as MOpen, Shut as MShut}
@@ -30,7 +28,8 @@ use Rattle.gier_grammar.specs.Productions.{actions_of, right_side_of, left_after
 use Rattle.gier_grammar.specs.ParseTable.{parse_action}
 use Rattle.gier_grammar.specs.StackEntries.{above}
 
--- what is held: symbols, an identifier that may be a label, the line of the last symbol, and how many own quantities were declared
+-- the lookahead, an identifier behind it that may be a label, the line of the last symbol, and how many own quantities were
+-- declared
 pub record WriterState : Type 0 where
   pub lookahead : List Symbol
   pub name : Option Symbol
@@ -55,10 +54,10 @@ name_symbols (Some name) = name ∷ []
 
 -- the lookahead is written
 abbrev pub write_lookahead : WriterState → Continuation → List Symbol
-write_lookahead c next = c.lookahead
-    ++ (name_symbols c.name ++ next (record { lookahead = []; name = None; last = c.last; owns = c.owns }))
+write_lookahead c next =
+    c.lookahead ++ (name_symbols c.name ++ next (record { lookahead = []; name = None; last = c.last; owns = c.owns }))
 
--- the line of the first symbol that is held, or another where none is
+-- the line of the first symbol of the lookahead, or another where there is none
 abbrev pub first_line : List Symbol → Option Symbol → (other : ℕ) → ℕ
 first_line [] None other = other
 first_line [] (Some x) other = x.line
@@ -66,14 +65,12 @@ first_line (s ∷ lookahead) name other = s.line
 
 abbrev pub add_label : Option Symbol → Symbol → WriterState → Continuation → List Symbol
 add_label None s c next = next c
-add_label (Some x) s c next = next
-    (record {
-      lookahead = (c.lookahead ++ as_role LDeclaring x ∷ []) ++ as_role LLabelColon s
-          ∷ [];
-      name = None;
-      last = c.last;
-      owns = c.owns;
-    })
+add_label (Some x) s c next = next (record {
+  lookahead = (c.lookahead ++ as_role LDeclaring x ∷ []) ++ as_role LLabelColon s ∷ [];
+  name = None;
+  last = c.last;
+  owns = c.owns;
+})
 
 abbrev pub with_owns : WriterState → (owns : ℕ) → WriterState
 with_owns c owns = record { lookahead = c.lookahead; name = c.name; last = c.last; owns = owns }
@@ -93,11 +90,11 @@ abbrev pub actions_on : List Action → Symbol → WriterState → Continuation 
 actions_on [] s c next = next c
 actions_on (action ∷ actions) s c next = action_on action s c (λ d. actions_on actions s d next)
 
--- an item that is passed writes its mark, or what was held for it; the next item is told whether a construct was opened here
+-- what is nothing here writes its mark, or the lookahead; the next is told whether a construct was opened here
 abbrev pub epsilon_by : Option Mark → GrammarSymbol → (here : ℕ) → (opened : Bool) → WriterState → (Bool → Continuation)
     → List Symbol
-epsilon_by (Some mark) item here opened c next = mark_symbol mark (line_by mark here c.last opened)
-    ∷ next (opened_by (Some mark) opened) c
+epsilon_by (Some mark) item here opened c next =
+    mark_symbol mark (line_by mark here c.last opened) ∷ next (opened_by (Some mark) opened) c
 epsilon_by None GStatement here opened c next = write_lookahead c (next opened)
 epsilon_by None GAfterName here opened c next = write_lookahead c (next opened)
 epsilon_by None GBranch here opened c next = write_lookahead c (next opened)
@@ -113,10 +110,11 @@ at_line c line = record { lookahead = c.lookahead; name = c.name; last = line; o
 abbrev pub StackContinuation : Type 0
 StackContinuation = List StackEntry → Continuation
 
--- a rule takes the symbol
+-- a production takes the symbol
 abbrev pub expand_on : Production → (left : ℕ) → Symbol → StackContinuation → List StackEntry → WriterState → List Symbol
-expand_on production left s next st c = actions_on (actions_of production) s c
-    (λ d. next (above (right_side_of production) (left_after production left) st) (at_line d s.line))
+expand_on production left s next st c =
+    let wanted = above (right_side_of production) (left_after production left) st in
+    actions_on (actions_of production) s c (λ d. next wanted (at_line d s.line))
 
 abbrev pub parse_action_on : ParseAction → StackEntry → Symbol → StackContinuation → List StackEntry
     → (below : Bool → Continuation) → (opened : Bool) → WriterState → List Symbol
@@ -127,8 +125,8 @@ parse_action_on (Expand production) wanted s next st below opened c = expand_on 
 -- a symbol is met by what is wanted
 abbrev pub meet : Tag → Symbol → StackContinuation → List StackEntry → (opened : Bool) → WriterState → List Symbol
 meet kind s next [] opened c = []
-meet kind s next (wanted ∷ st) opened c = parse_action_on (parse_action wanted.symbol kind wanted.left) wanted s next st
-    (meet kind s next st) opened c
+meet kind s next (wanted ∷ st) opened c =
+    parse_action_on (parse_action wanted.symbol kind wanted.left) wanted s next st (meet kind s next st) opened c
 
 -- what is written of all symbols that come, where the constructs that were opened before the first are told
 abbrev pub pass3_from : (opened : Bool) → List Symbol → List StackEntry → WriterState → List Symbol
@@ -140,7 +138,7 @@ pass3 w st c = pass3_from false w st c
 
 -- the first state, and all that is written of symbols
 abbrev pub first_stack : List StackEntry
-first_stack = above (GOpenProgram ∷ GProgram ∷ GShutProgram ∷ GTextEnd ∷ []) 0 []
+first_stack = above (OpenProgram ∷ GProgram ∷ ShutProgram ∷ GTextEnd ∷ []) 0 []
 
 abbrev pub first_state : WriterState
 first_state = record { lookahead = []; name = None; last = 0; owns = 0 }

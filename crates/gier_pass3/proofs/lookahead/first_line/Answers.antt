@@ -1,7 +1,7 @@
 use Rattle.std.proofs.Common.{arith, sym}
 use Rattle.gier_text.specs.TablesModel.{tables_model}
 use Rattle.gier_pass3.specs.Lists.{lookahead_in}
-use Rattle.gier_pass3.proofs.Entering.{first_line_is, fewer_lookahead}
+use Rattle.gier_pass3.proofs.Steps.{first_line_is, fewer_lookahead}
 use Rattle.gier_pass3.proofs.lookahead.first_line.Goals as goal
 
 pub returns-in-Some-clause-value : goal.returns-in-Some-clause-value

@@ -3,7 +3,7 @@ use Rattle.gier_symbol.specs.declared.symbol.Symbol.{Symbol}
 use Rattle.gier_text.specs.TablesModel.{tables_model}
 use Rattle.gier_text.specs.Outbox.{symbol_at, if_any, outbox_symbols_until}
 use Rattle.gier_pass3.specs.Lists.{lookahead_in, ready_by}
-use Rattle.gier_pass3.proofs.Released.{still_fewer, ready_more, keeps_more}
+use Rattle.gier_pass3.proofs.LookaheadReady.{still_fewer, ready_more, keeps_more}
 use Rattle.gier_pass3.proofs.lookahead.ready_lookahead.Goals as goal
 
 pub ready_at-requires-clause-room : goal.ready_at-requires-clause-room

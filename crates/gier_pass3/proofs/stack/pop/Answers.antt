@@ -5,10 +5,10 @@ use Rattle.gier_text.specs.Lists.{TableList, list_at, no_list, cut_to}
 use Rattle.gier_grammar.specs.GrammarSymbols.{credit_at}
 use Rattle.gier_pass3.specs.Lists.{credit_in}
 use Rattle.gier_pass3.specs.Lists.{stack_in}
-use Rattle.gier_pass3.proofs.Credit.{credit_cut, paid_from}
+use Rattle.gier_pass3.proofs.Credits.{credit_cut, paid_from}
 use Rattle.gier_pass3.proofs.StackWords.{stack_words}
-use Rattle.gier_pass3.proofs.ItemWords.{popped, with_last}
-use Rattle.gier_pass3.proofs.Entering.{entry_popped}
+use Rattle.gier_pass3.proofs.EntryWords.{popped, with_last}
+use Rattle.gier_pass3.proofs.Steps.{entry_popped}
 use Rattle.gier_pass3.proofs.stack.pop.Goals as goal
 
 pub returns-clause-paid : goal.returns-clause-paid

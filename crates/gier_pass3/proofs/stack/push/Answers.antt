@@ -4,10 +4,10 @@ use Rattle.gier_text.specs.TablesModel.{TablesModel, tables_model}
 use Rattle.gier_text.specs.Lists.{TableList, list_at, no_list, with_entry}
 use Rattle.gier_pass3.specs.Lists.{credit_in}
 use Rattle.gier_pass3.specs.Lists.{stack_in}
-use Rattle.gier_pass3.proofs.Credit.{credit_pushed}
+use Rattle.gier_pass3.proofs.Credits.{credit_pushed}
 use Rattle.gier_pass3.proofs.StackWords.{stack_words}
-use Rattle.gier_pass3.proofs.ItemWords.{read_pushed, items_pushed}
-use Rattle.gier_pass3.proofs.Entering.{entries_pushed}
+use Rattle.gier_pass3.proofs.EntryWords.{read_pushed, items_pushed}
+use Rattle.gier_pass3.proofs.Steps.{entries_pushed}
 use Rattle.gier_pass3.proofs.stack.push.Goals as goal
 
 pub returns-clause-credit : goal.returns-clause-credit

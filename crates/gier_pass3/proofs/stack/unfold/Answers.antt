@@ -2,7 +2,7 @@ use Rattle.std.proofs.Common.{◌%◌, ◌/◌, ◌∙◌, ap, sym}
 use Rattle.std.specs.Prelude.{Some}
 use Rattle.gier_grammar.specs.declared.grammar_symbol.GrammarSymbol.{GrammarSymbol}
 use Rattle.gier_grammar.specs.declared.stack_entry.StackEntry.{StackEntry}
-use Rattle.gier_pass3.proofs.ItemWords.{item_number, number_same}
+use Rattle.gier_pass3.proofs.EntryWords.{item_number, number_same}
 use Rattle.gier_pass3.proofs.stack.unfold.Goals as goal
 
 pub returns-in-Some-clause-wanted : goal.returns-in-Some-clause-wanted

@@ -1,7 +1,7 @@
 use Rattle.std.proofs.Common.{arith}
 use Rattle.gier_text.specs.TablesModel.{tables_model}
 use Rattle.gier_pass3.specs.Lists.{lookahead_by}
-use Rattle.gier_pass3.proofs.Loads.{preserves_lookahead, length_weight, some_weight}
+use Rattle.gier_pass3.proofs.Potentials.{preserves_lookahead, length_weight, some_weight}
 use Rattle.gier_pass3.proofs.pass.Pass3.add_lookahead.Goals as goal
 
 pub add_lookahead-requires-clause-room : goal.add_lookahead-requires-clause-room

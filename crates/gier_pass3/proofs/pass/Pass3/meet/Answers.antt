@@ -4,9 +4,9 @@ use Rattle.gier_text.specs.TablesModel.{tables_model}
 use Rattle.gier_text.specs.Lists.{TableList}
 use Rattle.gier_text.specs.Outbox.{outbox_symbols}
 use Rattle.gier_pass3.specs.Found.{Follows}
-use Rattle.gier_pass3.proofs.Following.{one_passed, one_refused, one_taken}
-use Rattle.gier_pass3.proofs.Entering.{met_passed, met_taken, met_refused, met_nothing}
-use Rattle.gier_pass3.proofs.Loads.{small_price}
+use Rattle.gier_pass3.proofs.GrammarSteps.{one_passed, one_refused, one_taken}
+use Rattle.gier_pass3.proofs.Steps.{met_passed, met_taken, met_refused, met_nothing}
+use Rattle.gier_pass3.proofs.Potentials.{small_price}
 use Rattle.gier_pass3.proofs.pass.Pass3.meet.Goals as goal
 
 pub returns-in-Error-clause-follows : goal.returns-in-Error-clause-follows

@@ -5,8 +5,8 @@ use Rattle.gier_text3.specs.PurePass.{actions_on}
 use Rattle.gier_pass3.specs.Refinement.{writer_state_in}
 use Rattle.gier_grammar.specs.declared.production.Action.TheVariants.{Open}
 use Rattle.gier_tree.specs.declared.construct.Construct.TheVariants.{Program}
-use Rattle.gier_pass3.proofs.Entering.{actions_next}
-use Rattle.gier_pass3.proofs.Loads.{costs_next}
+use Rattle.gier_pass3.proofs.Steps.{actions_next}
+use Rattle.gier_pass3.proofs.Potentials.{costs_next}
 use Rattle.gier_pass3.proofs.pass.Pass3.perform_all.Goals as goal
 
 pub loop-action-preserved : goal.loop-action-preserved

@@ -1,7 +1,7 @@
 use Rattle.std.proofs.Common.{arith}
 use Rattle.gier_text.specs.TablesModel.{tables_model}
 use Rattle.gier_pass3.specs.Lists.{ready_by}
-use Rattle.gier_pass3.proofs.Loads.{preserves_ready, length_weight, some_weight}
+use Rattle.gier_pass3.proofs.Potentials.{preserves_ready, length_weight, some_weight}
 use Rattle.gier_pass3.proofs.pass.Pass3.write.Goals as goal
 
 pub ready-requires-clause-room : goal.ready-requires-clause-room

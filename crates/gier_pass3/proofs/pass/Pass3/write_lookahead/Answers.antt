@@ -2,7 +2,7 @@ use Rattle.std.proofs.Common.{arith}
 use Rattle.gier_text.specs.TablesModel.{tables_model}
 use Rattle.gier_text3.specs.PurePass.{name_symbols}
 use Rattle.gier_pass3.specs.Lists.{lookahead_by, ready_by}
-use Rattle.gier_pass3.proofs.Loads.{preserves_all, length_weight, name_light}
+use Rattle.gier_pass3.proofs.Potentials.{preserves_all, length_weight, name_light}
 use Rattle.gier_pass3.proofs.pass.Pass3.write_lookahead.Goals as goal
 
 pub ready_all-requires-clause-room : goal.ready_all-requires-clause-room

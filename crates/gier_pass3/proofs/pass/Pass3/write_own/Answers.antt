@@ -2,7 +2,7 @@ use Rattle.std.proofs.Common.{◌∙◌, ap, arith}
 use Rattle.gier_symbol.specs.ByTag.{sym}
 use Rattle.gier_symbol.specs.declared.tag.Tag.TheVariants.{OwnNumber}
 use Rattle.gier_text.specs.TablesModel.{tables_model}
-use Rattle.gier_pass3.proofs.Entering.{wrote_own}
+use Rattle.gier_pass3.proofs.Steps.{wrote_own}
 use Rattle.gier_pass3.proofs.pass.Pass3.write_own.Goals as goal
 
 pub returns-clause-wrote : goal.returns-clause-wrote

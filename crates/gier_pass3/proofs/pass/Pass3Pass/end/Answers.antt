@@ -3,8 +3,8 @@ use Rattle.gier_symbol.specs.declared.symbol.Symbol.{Symbol}
 use Rattle.gier_text.specs.TablesModel.{tables_model}
 use Rattle.gier_text.proofs.DriveLoop.{OnOk-map}
 use Rattle.gier_pass3.specs.Lists.{ready_by}
-use Rattle.gier_pass3.proofs.Loads.{length_weight}
-use Rattle.gier_pass3.proofs.GoingOn.{less_more, both_ok, relates_whole}
+use Rattle.gier_pass3.proofs.Potentials.{length_weight}
+use Rattle.gier_pass3.proofs.InvariantSteps.{less_more, both_ok, relates_whole}
 use Rattle.gier_pass3.proofs.pass.Pass3Pass.end.Goals as goal
 
 pub returns-clause-roomy : goal.returns-clause-roomy

@@ -5,7 +5,7 @@ use Rattle.gier_text.specs.Potential.{is_numbered}
 use Rattle.gier_text.specs.TablesModel.{tables_model}
 use Rattle.gier_text.proofs.DriveLoop.{OnOk-map}
 use Rattle.gier_pass3.specs.Lists.{ready_by}
-use Rattle.gier_pass3.proofs.GoingOn.{FaultStep, less_more, both_ok, stands_more, few_more, numbered_at, refuted}
+use Rattle.gier_pass3.proofs.InvariantSteps.{FaultStep, less_more, both_ok, stands_more, few_more, numbered_at, refuted}
 use Rattle.gier_pass3.proofs.pass.Pass3Pass.take.Goals as goal
 use Rattle.gier_pass3.proofs.pass.Pass3Pass.take.Goals.{then-self-via-then-self, then-self-via-else-self+then-is_unnumbered}
 

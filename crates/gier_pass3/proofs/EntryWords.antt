@@ -1,4 +1,4 @@
--- The words of items on the stack, and what is wanted when one is put there or taken away.
+-- The words of grammar symbols on the stack, and what is wanted when one is put there or taken away.
 use Rattle.std.proofs.Common.{◌≡◌, ◌<◌, ◌+◌, ◌/◌, ◌%◌, ◌∙◌, ℕ, zero, suc, Bool, true, false, List, [], ◌∷◌, ◌++◌, length, take, get_or, refl, sym, ap, arith}
 use Rattle.std.specs.Prelude.{Option, None, Some, cond, ◌==◌, nat_lt}
 use Rattle.std.specs.List.{find}
@@ -40,7 +40,7 @@ item_number n i h = same_number (number_of i) n (find_holds (λ item. number_of 
 pub number_same : (a b : GrammarSymbol) → number_of a ≡ number_of b → a ≡ b
 number_same a b e = some_same a b (sym (item_found a) ∙ ap item_at e ∙ item_found b)
 
--- a word tells its item, and what stands beside it
+-- a word tells its grammar symbol, and what stands beside it
 small_test : (i : GrammarSymbol) → nat_lt (number_of i) 256 ≡ true
 small_test OpenProgram = refl
 small_test _ = refl
@@ -99,7 +99,7 @@ popped t ws words w result whole same is items =
     let less = items_less ws w [] (rw (sym whole) items) in
     rw (whole, read_more ws w []) (popped_by t ws w (item_at (w % 256)) result refl same is less.0 less.1)
 
--- the word of an item is put on the stack
+-- the word of a grammar symbol is put on the stack
 pub read_pushed : (old new : List ℕ) (w : ℕ) (i : GrammarSymbol) (left : ℕ) → new ≡ old ++ w ∷ [] → w ≡ word_of i left → read_words new [] ≡ wanted_above i left (read_words old [])
 read_pushed old new w i left is e = ap (λ l. read_words l []) is ∙ read_more old w [] ∙ ap (λ v. read_word v (read_words old [])) e ∙ read_item i left (read_words old [])
 

@@ -19,8 +19,8 @@ use Rattle.gier_pass3.specs.Invariant.{IsFit, StateInvariant, SymbolInvariant, P
 use Rattle.gier_pass3.specs.Refinement.{RefinesMeet}
 use Rattle.gier_tree.specs.Signs.{sign_of, sign_tag}
 use Rattle.gier_pass3.proofs.Written.{writes_more, items_of, whole_text}
-use Rattle.gier_pass3.proofs.Following.{found_kept, found_more, found_whole}
-use Rattle.gier_pass3.proofs.Loads.{weight_append, length_weight, no_fit}
+use Rattle.gier_pass3.proofs.GrammarSteps.{found_kept, found_more, found_whole}
+use Rattle.gier_pass3.proofs.Potentials.{weight_append, length_weight, no_fit}
 
 pub less_more : (text : View) (m n : ℕ) → HasLess text m → m ≤ n → HasLess text n
 less_more text m n less le = (less.0, less.1, omega (arith, less.2, le))

@@ -1,4 +1,4 @@
--- Symbols that are held, of which so many are released.
+-- The lookahead, of which so many symbols were made ready.
 use Rattle.std.proofs.Common.{◌≡◌, ◌≤◌, ◌<◌, ◌+◌, ◌++◌, ◌∙◌, ℕ, zero, suc, inl, inr, length, length-append, sym, ap, arith, List}
 use Rattle.std.proofs.lemmas.Bool.{cases_eq}
 use Rattle.std.proofs.lemmas.List.{append_assoc}

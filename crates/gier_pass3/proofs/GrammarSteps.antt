@@ -1,4 +1,4 @@
--- How the pass follows the grammar: while it passes items before a symbol, when it takes or refuses one, and over all that it reads.
+-- How the pass follows the grammar: while grammar symbols are nothing before a symbol, when it takes or refuses one, and over all that it reads.
 use Rattle.std.proofs.Common.{◌≡◌, ◌∙◌, ℕ, Bool, true, false, List, [], ◌∷◌, ◌++◌, length, refl, sym, ap, subst}
 use Rattle.std.specs.Prelude.{None, Some}
 use Rattle.std.proofs.lemmas.Bool.{false≢true}
@@ -32,7 +32,7 @@ no_items t e = rw e tt
 pub none_passed : (kind : Tag) (t : TablesModel) → StackInvariant t → Passes kind t t
 none_passed kind t h = record { items = h; same = λ sign line e. refl }
 
--- the row of an item that was popped, for the sign of a symbol of this kind
+-- the row of a grammar symbol that was popped, for the sign of a symbol of this kind
 row_of : (kind : Tag) (u v : TablesModel) (next : StackEntry) (d : ParseAction) (sign : Sign) (line : ℕ) → Pops (wanted_in u) (Some next) v → parse_action next.symbol kind next.left ≡ d → sign_tag sign ≡ kind → IsRow d sign line next.left (wanted_in u) (wanted_in v)
 row_of kind u v next d sign line pops is e =
     let at : IsRow (parse_action next.symbol (sign_tag sign) next.left) sign line next.left (wanted_above next.symbol next.left (wanted_in v)) (wanted_in v) = row sign next.symbol line next.left (wanted_in v) pops.1 in

@@ -1,4 +1,4 @@
--- What stands on the stack when an item is put there or taken away, and what a symbol that is met writes.
+-- What stands on the stack when a grammar symbol is put there or taken away, and what a symbol that is met writes.
 use Rattle.std.proofs.Common.{◌≡◌, ◌<◌, ◌+◌, ◌/◌, ◌%◌, ◌∙◌, ℕ, zero, suc, Bool, true, false, List, [], ◌∷◌, ◌++◌, drop, get_or, length, refl, sym, ap, arith, add-one, length-append}
 use Rattle.std.specs.Prelude.{Option, None, Some}
 use Rattle.std.proofs.lemmas.Bool.{false≢true}
@@ -20,7 +20,7 @@ use Rattle.gier_grammar.specs.ParseTable.{parse_action}
 use Rattle.gier_text3.specs.PurePass.{WriterState, Continuation, StackContinuation, action_on, actions_on, expand_on, epsilon_on, parse_action_on, meet, first_line, with_owns}
 use Rattle.gier_grammar.specs.StackEntries.{entry}
 use Rattle.gier_pass3.specs.Refinement.{entry_by, entries_by, entries_in, writer_state_in, PopsStackEntry, unless, RefinesWriting, RefinesMeet, RefinesEpsilon, RefinesExpand}
-use Rattle.gier_pass3.proofs.ItemWords.{at_word, word_left, items_less}
+use Rattle.gier_pass3.proofs.EntryWords.{at_word, word_left, items_less}
 
 -- one word more
 entries_more : (ws : List ℕ) (w : ℕ) (st : List StackEntry) → entries_by (ws ++ w ∷ []) st ≡ entry_by (item_at (w % 256)) (w / 256) (entries_by ws st)
@@ -42,7 +42,7 @@ entry_popped t ws words w result whole same is items =
     let less = items_less ws w [] (rw (sym whole) items) in
     rw (whole, entries_more ws w []) (entry_popped_by t ws w (item_at (w % 256)) result refl same is less.1)
 
--- the first symbol that is held
+-- the first symbol that is looked ahead
 first_in : (list : TableList) (n : ℕ) (s : Symbol) (name : Option Symbol) (other : ℕ) → symbol_at list 0 ≡ Some s → first_line (outbox_symbols_until list (suc n)) name other ≡ s.line
 first_in list zero s name other e = rw e refl
 first_in list (suc n) s name other e = first_more (outbox_symbols_until list (suc n)) (if_any (symbol_at list (suc n))) name other s (first_in list n s name other e) (some_first list n s e)
@@ -68,7 +68,7 @@ fewer_lookahead list (suc (suc n)) lt e = omega (arith, fewer_lookahead list (su
     at_most_one None = omega arith
     at_most_one (Some s) = omega arith
 
--- one act more
+-- one action more
 actions_drop : (actions : List Action) (at : ℕ) (d : Action) (s : Symbol) (c : WriterState) (next : Continuation) → at < length actions → actions_on (drop at actions) s c next ≡ action_on (get_or actions at d) s c (λ e. actions_on (drop (suc at) actions) s e next)
 actions_drop [] at d s c next lt = absurd (omega arith)
 actions_drop (action ∷ actions) zero d s c next lt = refl
@@ -77,7 +77,7 @@ actions_drop (action ∷ actions) (suc at) d s c next lt = actions_drop actions 
 pub actions_next : (actions : List Action) (at : ℕ) (d : Action) (s : Symbol) (c : WriterState) (next : Continuation) → at < length actions → actions_on (drop at actions) s c next ≡ action_on (get_or actions at d) s c (λ e. actions_on (drop (at + 1) actions) s e next)
 actions_next actions at d s c next lt = rw add-one (actions_drop actions at d s c next lt)
 
--- a symbol is met by one item
+-- a symbol is met by one grammar symbol
 moved : (kind : Tag) (s : Symbol) (next : StackContinuation) (self : Pass3) (u v : TablesModel) (wanted : StackEntry) (d : ParseAction) (op : Bool) → entries_in u ≡ wanted ∷ entries_in v → lookahead_in v ≡ lookahead_in u → ready_in v ≡ ready_in u → parse_action wanted.symbol kind wanted.left ≡ d → ready_by u ++ meet kind s next (entries_in u) op (writer_state_in self u) ≡ ready_by v ++ parse_action_on d wanted s next (entries_in v) (meet kind s next (entries_in v)) op (writer_state_in self v)
 moved kind s next self u v wanted d op entries lookahead ready is =
     ap (λ st. ready_by u ++ meet kind s next st op (writer_state_in self u)) entries
@@ -119,7 +119,7 @@ met_nothing kind s next self new u v w op entries ready same stops =
     ∙ ap (λ x. ready_by w ++ x) (stopping new.stopped (next (entries_in w) (writer_state_in new w)) stops)
 
 -- an own quantity's number is written, and the next one is one more
-pub wrote_own : (next : Continuation) (pass new : Pass3) (t u : TablesModel) (s written : Symbol) (o : ℕ) → s ≡ written → o ≡ suc pass.owns → RefinesWriting pass t new u (λ then. s ∷ then (writer_state_in pass t)) → ready_by t ++ written ∷ next (with_owns (writer_state_in pass t) (suc pass.owns)) ≡ ready_by u ++ next (with_owns (writer_state_in new u) o)
+pub wrote_own : (next : Continuation) (pass new : Pass3) (t u : TablesModel) (s written : Symbol) (o : ℕ) → s ≡ written → o ≡ suc pass.owns → RefinesWriting (λ c then. s ∷ then c) pass t new u → ready_by t ++ written ∷ next (with_owns (writer_state_in pass t) (suc pass.owns)) ≡ ready_by u ++ next (with_owns (writer_state_in new u) o)
 wrote_own next pass new t u s written o e f wrote =
     ap (λ x. ready_by t ++ x ∷ next (with_owns (writer_state_in pass t) (suc pass.owns))) (sym e)
     ∙ wrote (λ d. next (with_owns d (suc pass.owns)))

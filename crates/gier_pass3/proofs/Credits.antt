@@ -1,4 +1,4 @@
--- What the items of a stack may still write, when one is put on it or taken away.
+-- What the entries of a stack may still write, when one is put on it or taken away.
 use Rattle.std.proofs.Common.{◌<◌, ◌≡◌, ℕ, zero, suc, ◌+◌, ◌*◌, ◌-◌, ◌≤◌, ◌%◌, List, [], ◌∷◌, length, drop, get_or, refl, ap, ◌∙◌, arith, rules, add-one}
 use Rattle.std.proofs.lemmas.List.{get_or_append_left, places}
 use Rattle.std.proofs.Math.Seq.{get_or-append_right}

@@ -1,4 +1,4 @@
--- What lists of symbols weigh, and what becomes of the load when one is written or held.
+-- The potential of lists of symbols, and what becomes of it when a symbol is written or looked ahead.
 use Rattle.std.proofs.Common.{◌≡◌, ◌≤◌, ◌<◌, ◌+◌, ℕ, zero, suc, List, [], ◌∷◌, ◌++◌, length, drop, get_or, arith, refl, ap, ◌∙◌, add-one}
 use Rattle.std.specs.Prelude.{All, IsTrue, nat_lt, true}
 use Rattle.std.proofs.lemmas.Bool.Decides.{nat_tests}
@@ -79,7 +79,7 @@ small_number bytes s lt = grind (arith, nat_tests)
 pub number_small : (bytes : ℕ) (s : Symbol) → s.tag ≡ 3 → IsTrue (is_numbered 2 bytes s) → s.value < bytes + 64
 number_small bytes s tag is = grind (arith, nat_tests)
 
--- the load after a symbol was made ready
+-- the potential after a symbol was made ready
 pub preserves_ready : (pass : Pass3) (t u : TablesModel) (s : Symbol) → StateInvariant pass t → AddsReady (s ∷ []) t u → IsFit 3 pass.bytes s → PreservesStack (potential_of 3 s.tag) 0 pass pass t u
 preserves_ready pass t u s holds change fit = record {
   state = record {
@@ -106,7 +106,7 @@ preserves_ready pass t u s holds change fit = record {
   counted = omega arith;
 }
 
--- the load after a symbol was held
+-- the potential after a symbol was looked ahead
 pub preserves_lookahead : (pass : Pass3) (t u : TablesModel) (s : Symbol) → StateInvariant pass t → AddsLookahead (s ∷ []) t u → IsFit 3 pass.bytes s → PreservesStack (potential_of 3 s.tag) 0 pass pass t u
 preserves_lookahead pass t u s holds change fit = record {
   state = record {
@@ -141,7 +141,7 @@ pub name_light : (name : Option Symbol) → potential 3 (name_symbols name) ≤ 
 name_light None = omega arith
 name_light (Some s) = omega (arith, most_weight s.tag)
 
--- the load after all that was held was made ready
+-- the potential after the lookahead was made ready
 pub preserves_all : (pass : Pass3) (t u : TablesModel) → StateInvariant pass t → EmptiesLookahead (ready_by t ++ lookahead_by t ++ name_symbols pass.name) t u → PreservesStack 0 0 pass (record pass { name = None }) t u
 preserves_all pass t u holds change = record {
   state = record {
@@ -168,7 +168,7 @@ preserves_all pass t u holds change = record {
   counted = omega arith;
 }
 
--- a rule costs little
+-- a production costs little
 price_test : (production : Production) → nat_lt (price production) 33 ≡ true
 price_test ProgramLabel = refl
 price_test _ = refl
