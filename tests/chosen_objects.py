@@ -1,5 +1,5 @@
 """The objects that tests/objects and tests/addresses run: of programs of the model's generator, and random ones. No program is run here,
-but the model's runs are told as object_run tells its own."""
+but the model's runs are told as tool_object_run tells its own."""
 import random
 
 from model import orders
@@ -84,7 +84,7 @@ def run_of(job):
 
 
 def lines_of(run, job):
-    """The lines that object_run has to print of the model's run."""
+    """The lines that tool_object_run has to print of the model's run."""
     data = job[2]
     ending = {"alarm": "alarm %s" % run.alarm, "spoilt": "spoilt %d %d" % (run.spoilt or (0, 0))}.get(run.ending, run.ending)
     return [

@@ -1,4 +1,4 @@
-"""Runs the program text_dump on texts of the model, for tests/texts and tests/type_faults. It compares nothing."""
+"""Runs the program tool_text_dump on texts of the model, for tests/texts and tests/type_faults. It compares nothing."""
 import shlex
 import subprocess
 
@@ -15,7 +15,7 @@ def symbols(text):
 
 
 def fault(line, what):
-    """A fault as text_dump tells it, without its position."""
+    """A fault as tool_text_dump tells it, without its position."""
     return "fault %d %s" % (line, NAMES.get(what) or "".join(word.capitalize() for word in what.split()))
 
 
@@ -49,7 +49,7 @@ def without_positions(lines):
 
 
 def answers(command, passes, texts):
-    """The lines that text_dump prints for each (size, text); for those that it didn't answer what it wrote on standard error."""
+    """The lines that tool_text_dump prints for each (size, text); for those that it didn't answer what it wrote on standard error."""
     found = []
     for group in batches(texts):
         lines = "\n".join(line for size, text in group for line in given(size, text)) + "\n"

@@ -1,5 +1,0 @@
-use Rattle.std.proofs.Common.{◌<◌, ◌^◌}
-use Rattle.foundation_bench.proofs.words.in_vec.Given as goal
-
-abbrev pub invariant-loop-turn : goal.invariant-loop-turn
-invariant-loop-turn l = l.last < 2 ^ 40

@@ -1,5 +1,0 @@
-use Rattle.std.proofs.Common.{◌-◌, ◌^◌}
-use Rattle.machine_bench.proofs.plain.obey.Given as goal
-
-abbrev pub decreases-loop-orders : goal.decreases-loop-orders
-decreases-loop-orders l = 2 ^ 64 - l.orders

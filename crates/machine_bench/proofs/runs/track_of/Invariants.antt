@@ -1,5 +1,0 @@
-use Rattle.std.proofs.Common.{◌<◌, ◌^◌, All}
-use Rattle.machine_bench.proofs.runs.track_of.Given as goal
-
-abbrev pub invariant-loop-place : goal.invariant-loop-place
-invariant-loop-place l = All (λ word. word < 2 ^ 40) l.found
