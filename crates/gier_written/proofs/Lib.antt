@@ -1,0 +1,3 @@
+pub mod RenamedExpressions
+pub mod HoistedStatements
+pub mod FramedPrograms
