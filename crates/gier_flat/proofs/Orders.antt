@@ -5,7 +5,7 @@ use Rattle.std.specs.Int.{int_pow}
 use Rattle.std.proofs.lemmas.Bool.{lt-ltb}
 use Rattle.std.proofs.lemmas.List.{append-nil}
 use Rattle.gier_word.specs.Words.{int_of_word, word_of_int}
-use Rattle.gier_word.specs.Operations.{in_range_or_spill, is_in_range, is_zero, sum_of, difference_of, product_of, quotient_of, power_of, negative_of}
+use Rattle.gier_word.specs.Operations.{in_range_or_spill, is_in_range, is_zero, sum_of, difference_of, product_of, quotient_of, small_exponent, power_of, negative_of}
 use Rattle.gier_word.specs.Alarm.{alarm_of}
 use Rattle.gier_word.specs.declared.int40.Spoil.{Spoil}
 use Rattle.gier_word.specs.declared.int40.Spoil.TheVariants.{Spill, Division, Power}
@@ -205,7 +205,7 @@ module _ (text : List Symbol) (size : ℕ) (ends : HasStop text) where
         by false z h = h
 
     power_settles : (a b : ℤ) → Settled (answered (object text) size m (power_of a b)) (power_of a b)
-    power_settles a b = by (int_lt b (pos 0)) (is_zero a && is_zero b) (int_pow a (nat_abs b)) (held_settles (int_pow a (nat_abs b)))
+    power_settles a b = by (int_lt b (pos 0)) (is_zero a && is_zero b) (int_pow a (small_exponent (nat_abs b))) (held_settles (int_pow a (small_exponent (nat_abs b))))
       where
         by : (t u : Bool) (z : ℤ) → Settled (answered (object text) size m (in_range_or_spill z)) (in_range_or_spill z) → Settled (answered (object text) size m (if t then Err Power else (if u then Err Power else in_range_or_spill z))) (if t then Err Power else (if u then Err Power else in_range_or_spill z))
         by true u z h = alarm_row Power

@@ -1,4 +1,5 @@
 pub mod Powers
+pub mod SmallExponents
 pub mod Cause
 pub mod Options
 mod Examples

@@ -3,3 +3,4 @@ pub mod Words
 pub mod Alarm
 pub mod Cause
 pub mod Standard
+pub mod Powers

@@ -1,6 +1,7 @@
 -- The operations on whole numbers from -2^39 to 2^39 - 1 (Report 3.3.4 and 3.2.4): each gives the whole number that
 -- arithmetic gives, or says why there is none.
-use Rattle.std.specs.Prelude.{◌&&◌, ◌+ℤ◌, ◌-ℤ◌, ◌*ℤ◌, ◌≤ℤ◌, ℤ, pos, negsuc, neg_ℤ, nat_abs, int_div, int_le, int_lt}
+use Rattle.std.specs.Prelude.{◌&&◌, ◌+◌, ◌%◌, ℕ, nat_lt}
+use Rattle.std.specs.Prelude.{◌+ℤ◌, ◌-ℤ◌, ◌*ℤ◌, ◌≤ℤ◌, ℤ, pos, negsuc, neg_ℤ, nat_abs, int_div, int_le, int_lt}
 use Rattle.std.specs.Prelude.{if◌then◌else◌, Bool, Result, Ok, Err}
 use Rattle.std.specs.Int.{int_pow, int_signum}
 use Rattle.gier_word.specs.declared.int40.Spoil.{Spoil}
@@ -40,10 +41,15 @@ product_of a b = in_range_or_spill (a *ℤ b)
 abbrev pub quotient_of : ℤ → ℤ → Result ℤ Spoil
 quotient_of a b = if is_zero b then Err Division else in_range_or_spill (int_div a b)
 
+-- An exponent that stands for any other: with 40 and above no power is in the range but those of 0, 1 and -1, and of these it
+-- only counts whether the exponent is even. So a power is formed of no more than 41 factors.
+abbrev pub small_exponent : ℕ → ℕ
+small_exponent n = if nat_lt n 40 then n else 40 + n % 2
+
 -- the repeated product for a positive exponent, and 1 for the exponent 0 of any base but 0
 abbrev pub power_of : ℤ → ℤ → Result ℤ Spoil
 power_of a b = if int_lt b (pos 0) then Err Power
-    else (if is_zero a && is_zero b then Err Power else in_range_or_spill (int_pow a (nat_abs b)))
+    else (if is_zero a && is_zero b then Err Power else in_range_or_spill (int_pow a (small_exponent (nat_abs b))))
 
 abbrev pub negative_of : ℤ → Result ℤ Spoil
 negative_of a = in_range_or_spill (neg_ℤ a)

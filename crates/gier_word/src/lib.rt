@@ -4,10 +4,12 @@
 
 mod alarm;
 mod int40;
+mod law;
 mod refusal;
 mod word40;
 
 pub use alarm::Alarm;
 pub use int40::{Int40, Spoil};
+pub use law::law_power;
 pub use refusal::{Failed, NoMemory, Odd};
 pub use word40::Word40;
