@@ -1,0 +1,4 @@
+pub mod Silence
+pub mod NamesAlone
+pub mod Lists
+pub mod FairExpressions
