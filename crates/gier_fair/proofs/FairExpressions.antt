@@ -25,7 +25,8 @@ use Rattle.gier_kinds.specs.ExprTypes.{type_expr, type_simple, type_implication,
 use Rattle.gier_kinds.specs.Faults.{TypeFaults, WrongUse, WrongSubscripts, WrongCount, WrongActual, WrongCondition, WrongBranches, falls, on_symbol}
 use Rattle.gier_kinds.specs.Types.{ExprType, OfInteger, OfBoolean, agree, is_known}
 use Rattle.gier_fair.specs.Expressions.{FairActualCount, FairPassed, first_wanted, FairExpr, FairSimple, FairImplication, FairDisjunction, FairConjunction, FairNegation, FairRelation, FairArithmetic, FairTerm, FairFactor, FairPrimary, FairCall, FairActual, FairActuals, FairElement, FairExprs}
-use Rattle.gier_fair.specs.Laws.{described, AreDeclared, ExpressionsAreFair}
+use Rattle.gier_fair.specs.Described.{described, AreDeclared}
+use Rattle.gier_fair.specs.Laws.{ExpressionsAreFair}
 use Rattle.gier_fair.proofs.Lists.{both_empty, three_empty, four_empty, five_empty, each_left, each_right}
 use Rattle.gier_fair.proofs.NamesAlone.{named}
 use Rattle.gier_fair.proofs.Silence.{silent, not_fallen, holds, holds_on, one_type, Typed, takes, one_operand, two_operands, one_more}
@@ -59,7 +60,7 @@ module _ (p : Places) where
   abbrev at : Scopes
   at = described p
 
-  abbrev Declared : Name → Type 0
+  abbrev pub Declared : Name → Type 0
   Declared x = (p x.number).what.kind ≢ Undeclared
 
   alone_declared : (e : Expr) (o : Option Name) → name_alone e ≡ o → AreDeclared p (uses_expr e) → (x : Name) → o ≡ Some x → Declared x

@@ -1,2 +1,5 @@
+pub mod Described
 pub mod Expressions
+pub mod InScope
+pub mod Fair
 pub mod Laws

@@ -1,7 +1,12 @@
 // The laws of fair programs. They have no code: each says what its contract says.
-ghost use Rattle.gier_fair.specs.Laws.{ExpressionsAreFair};
+ghost use Rattle.gier_fair.specs.Laws.{ExpressionsAreFair, TypesAreFair};
 
 /// An expression whose identifiers are declared, and which has no faults of types, is fair and has its type.
 pub fn law_fair_expressions()
     ensures { ExpressionsAreFair }
+{}
+
+/// A program whose scopes are right, and which has no faults of types, is fair.
+pub fn law_fair_types()
+    ensures { TypesAreFair }
 {}

@@ -4,4 +4,4 @@
 
 mod laws;
 
-pub use laws::law_fair_expressions;
+pub use laws::{law_fair_expressions, law_fair_types};
