@@ -5,3 +5,6 @@ pub mod FairExpressions
 pub mod PlacesTell
 pub mod Parts
 pub mod FairPrograms
+pub mod RenamedUses
+pub mod LabelsOf
+pub mod OwnsOf
