@@ -8,3 +8,5 @@ pub mod FairPrograms
 pub mod RenamedUses
 pub mod LabelsOf
 pub mod OwnsOf
+pub mod Apart
+pub mod ScopesApart

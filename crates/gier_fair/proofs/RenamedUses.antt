@@ -6,7 +6,7 @@ use Rattle.gier_tree.specs.Rename.{Renaming, rename, rename_expr, rename_simple,
 use Rattle.gier_tree.specs.Trees.{Name, Expr, OneSimple, IfExpr, Simple, OneImplication, Equivalent, Implication, OneDisjunction, Implies, Disjunction, OneConjunction, Either, Conjunction, OneNegation, Both, Negation, OneRelation, Negated, Relation, OneArithmetic, Compared, Arithmetic, OneTerm, Signed, Summed, Term, OneFactor, Multiplied, Factor, OnePrimary, Raised, Primary, Numeral, Logical, Bracketed, OneCall, OneElement, Call, Alone, WithActuals, Element, Subscripted, Actual, OneExpr, AString, Actuals, NoActuals, MoreActuals, Exprs, NoExprs, MoreExprs, BoundPair, MkPair, NextPair, LeftSide, OneName, LeftElement, LeftPart, Turns, OneValue, StepUntil, WhileTrue, NextTurns}
 use Rattle.gier_scope.specs.Uses.{uses_expr, uses_simple, uses_implication, uses_disjunction, uses_conjunction, uses_negation, uses_relation, uses_arithmetic, uses_term, uses_factor, uses_primary, uses_call, uses_element, uses_actual, uses_actuals, uses_exprs, uses_pair, uses_pairs, uses_left, uses_parts, uses_turns, uses_list}
 
-mapped : {X Y : Type 0} (f : X → Y) (xs ys : List X) → map f (xs ++ ys) ≡ map f xs ++ map f ys
+pub mapped : {X Y : Type 0} (f : X → Y) (xs ys : List X) → map f (xs ++ ys) ≡ map f xs ++ map f ys
 mapped f [] ys = refl
 mapped f (x ∷ xs) ys = ap (λ zs. f x ∷ zs) (mapped f xs ys)
 
