@@ -34,11 +34,11 @@ pub inside_one : (xs ys : Scope) (n : ℕ) → declares (xs ++ ys) n ≡ true �
 inside_one xs ys n e = inside (declares xs n) (declares ys n) (declares (xs ++ ys) n) (joined xs ys n) e
 
 -- what can't be declared lacks
-lacks : (c : Bool) → (c ≡ true → ⊥) → c ≡ false
+pub lacks : (c : Bool) → (c ≡ true → ⊥) → c ≡ false
 lacks false h = refl
 lacks true h = absurd (h refl)
 
-contrary : (c : Bool) → c ≡ true → c ≡ false → ⊥
+pub contrary : (c : Bool) → c ≡ true → c ≡ false → ⊥
 contrary true e f = cc
 contrary false e f = cc
 
@@ -52,7 +52,7 @@ Apart before xs = AreDistinct xs × ((n : ℕ) → declares xs n ≡ true → de
 pub nothing_apart : (before : Scope) → Apart before []
 nothing_apart before = (tt, λ n e. cc)
 
-one_apart : (before xs : Scope) (x : ℕ) → declares before x ≡ false → Apart (x ∷ before) xs → Apart before (x ∷ xs)
+pub one_apart : (before xs : Scope) (x : ℕ) → declares before x ≡ false → Apart (x ∷ before) xs → Apart before (x ∷ xs)
 one_apart before xs x h k =
     ((lacks (declares xs x) (λ q. itself x (declares before x) (k.1 x q)), k.0),
     λ n e. by n (x == n) refl (declares xs n) refl e)
@@ -67,7 +67,7 @@ names_apart before (x ∷ xs) e =
     let q = both_empty (fault_where (declares before x.number) DeclaredTwice x.line) (declared_twice (x.number ∷ before) xs) e in
     one_apart before (scope_of xs) x.number (no_fault (declares before x.number) DeclaredTwice x.line q.0) (names_apart (x.number ∷ before) xs q.1)
 
-distinct_both : (xs ys : Scope) → AreDistinct xs → AreDistinct ys → ((n : ℕ) → declares ys n ≡ true → declares xs n ≡ false) → AreDistinct (xs ++ ys)
+pub distinct_both : (xs ys : Scope) → AreDistinct xs → AreDistinct ys → ((n : ℕ) → declares ys n ≡ true → declares xs n ≡ false) → AreDistinct (xs ++ ys)
 distinct_both [] ys h k f = k
 distinct_both (x ∷ xs) ys h k f =
     let here = lacks (declares ys x) (λ q. itself x (declares xs x) (f x q)) in

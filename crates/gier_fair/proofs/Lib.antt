@@ -10,3 +10,5 @@ pub mod LabelsOf
 pub mod OwnsOf
 pub mod Apart
 pub mod ScopesApart
+pub mod Layers
+pub mod Headings

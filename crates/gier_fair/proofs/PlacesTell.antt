@@ -24,6 +24,9 @@ placed : (level address number : ℕ) (es : List Entry) (p : Places) (x : ℕ) �
 placed level address number [] p x = refl
 placed level address number (e ∷ es) p x = chosen (x == e.name.number) _ _ _ (placed level (address + kind_words e.what.kind e.what.count) (number + kind_numbers e.what.kind) es p x)
 
+pub told : (level address number : ℕ) (es : List Entry) (p : Places) → bind_entries es (described p) ≡ described (place_all level address number es p)
+told level address number es p = sym (fun_ext (λ x. placed level address number es p x))
+
 joined : (es more : List Entry) (s : Scopes) → bind_entries (es ++ more) s ≡ bind_entries es (bind_entries more s)
 joined [] more s = refl
 joined (e ∷ es) more s = ap (bind e.name.number e.what) (joined es more s)
