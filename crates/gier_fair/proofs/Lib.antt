@@ -12,3 +12,4 @@ pub mod Apart
 pub mod ScopesApart
 pub mod Layers
 pub mod Headings
+pub mod HoistedEntries

@@ -1,5 +1,6 @@
 pub mod Described
 pub mod Expressions
 pub mod InScope
+pub mod FewNames
 pub mod Fair
 pub mod Laws
