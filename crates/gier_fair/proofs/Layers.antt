@@ -18,6 +18,18 @@ use Rattle.gier_fair.proofs.Apart.{joined, contrary}
 use Rattle.gier_fair.proofs.OwnsOf.{counted_declaration}
 use Rattle.gier_fair.proofs.PlacesTell.{bind_entries}
 
+left_in : (a b : Bool) → a ≡ true → (a || b) ≡ true
+left_in true b e = refl
+left_in false b e = cc
+
+right_in : (a b : Bool) → b ≡ true → (a || b) ≡ true
+right_in true b e = refl
+right_in false b e = e
+
+pub neither_in : (a b : Bool) → a ≡ false → b ≡ false → (a || b) ≡ false
+neither_in false b e h = h
+neither_in true b e h = cc
+
 module _ (owns : ℕ) where
   -- what is named by a scope, and what of it is kept there; what the identifier means outside of it and within it
   abbrev pub AtLayer : (names kept : Scope) (x outside within : ℕ) → Type 0
@@ -30,18 +42,6 @@ module _ (owns : ℕ) where
 
   pub no_layer : (f : Renaming) → Layer [] [] f f
   no_layer f x = inl (refl, refl)
-
-  left_in : (a b : Bool) → a ≡ true → (a || b) ≡ true
-  left_in true b e = refl
-  left_in false b e = cc
-
-  right_in : (a b : Bool) → b ≡ true → (a || b) ≡ true
-  right_in true b e = refl
-  right_in false b e = e
-
-  neither_in : (a b : Bool) → a ≡ false → b ≡ false → (a || b) ≡ false
-  neither_in false b e h = h
-  neither_in true b e h = cc
 
   pub both_layers : (outer_names outer_kept names kept : Scope) (f g h : Renaming) → Layer outer_names outer_kept f g → Layer names kept g h
       → Layer (names ++ outer_names) (kept ++ outer_kept) f h

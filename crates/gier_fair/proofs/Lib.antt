@@ -13,3 +13,4 @@ pub mod ScopesApart
 pub mod Layers
 pub mod Headings
 pub mod HoistedEntries
+pub mod HoistedScopes
