@@ -1,7 +1,6 @@
 -- Scopes without faults declare distinct identifiers.
 use Rattle.std.proofs.Common.{◌≡◌, ◌⊎◌, inl, inr, ℕ, Bool, true, false, List, [], ◌∷◌, refl, ap, sym, subst, ◌∙◌}
-use Rattle.std.specs.Prelude.{◌++◌, ◌==◌, ◌||◌, ◌&&◌, not, map}
-use Rattle.std.specs.List.{list_any}
+use Rattle.std.specs.Prelude.{◌++◌, ◌==◌, ◌||◌}
 use Rattle.std.proofs.lemmas.Bool.{eqb-true, eqb-false}
 use Rattle.std.proofs.lemmas.List.Folds.{list_any-append}
 use Rattle.gier_tree.specs.Trees.{Name, LabelPlace}
@@ -53,9 +52,10 @@ pub nothing_apart : (before : Scope) → Apart before []
 nothing_apart before = (tt, λ n e. cc)
 
 pub one_apart : (before xs : Scope) (x : ℕ) → declares before x ≡ false → Apart (x ∷ before) xs → Apart before (x ∷ xs)
-one_apart before xs x h k =
-    ((lacks (declares xs x) (λ q. itself x (declares before x) (k.1 x q)), k.0),
-    λ n e. by n (x == n) refl (declares xs n) refl e)
+one_apart before xs x h k = (
+  (lacks (declares xs x) (λ q. itself x (declares before x) (k.1 x q)), k.0),
+  λ n e. by n (x == n) refl (declares xs n) refl e,
+)
   where
     by : (n : ℕ) (c : Bool) → (x == n) ≡ c → (b : Bool) → declares xs n ≡ b → (c || b) ≡ true → declares before n ≡ false
     by n true q b r e = subst (λ n. declares before n ≡ false) (eqb-true x n q) h
@@ -74,9 +74,10 @@ distinct_both (x ∷ xs) ys h k f =
     (joined xs ys x ∙ ap (λ b. b || declares ys x) h.0 ∙ here, distinct_both xs ys h.1 k (λ n q. (neither (x == n) (declares xs n) (f n q)).1))
 
 pub both_apart : (before xs ys : Scope) → Apart before xs → Apart (xs ++ before) ys → Apart before (xs ++ ys)
-both_apart before xs ys h k =
-    (distinct_both xs ys h.0 k.0 (λ n q. (outside_both xs before n (k.1 n q)).0),
-    λ n q. by n (inside_one xs ys n q))
+both_apart before xs ys h k = (
+  distinct_both xs ys h.0 k.0 (λ n q. (outside_both xs before n (k.1 n q)).0),
+  λ n q. by n (inside_one xs ys n q),
+)
   where
     by : (n : ℕ) → (declares xs n ≡ true) ⊎ (declares ys n ≡ true) → declares before n ≡ false
     by n (inl q) = h.1 n q
@@ -121,9 +122,10 @@ pub none_of : (ys : Scope) → SomeOf [] ys
 none_of ys = (λ h. tt, λ n e. cc)
 
 pub both_of : (xs us ys vs : Scope) → SomeOf xs us → SomeOf ys vs → SomeOf (xs ++ ys) (us ++ vs)
-both_of xs us ys vs h k =
-    (λ d. distinct_both xs ys (h.0 (distinct_left us vs d)) (k.0 (distinct_right us vs d)) (λ n q. lacks (declares xs n) (λ r. contrary (declares us n) (h.1 n r) (distinct_between us vs d n (k.1 n q)))),
-    λ n q. by n (inside_one xs ys n q))
+both_of xs us ys vs h k = (
+  λ d. distinct_both xs ys (h.0 (distinct_left us vs d)) (k.0 (distinct_right us vs d)) (λ n q. lacks (declares xs n) (λ r. contrary (declares us n) (h.1 n r) (distinct_between us vs d n (k.1 n q)))),
+  λ n q. by n (inside_one xs ys n q),
+)
   where
     by : (n : ℕ) → (declares xs n ≡ true) ⊎ (declares ys n ≡ true) → declares (us ++ vs) n ≡ true
     by n (inl q) = joined us vs n ∙ left (declares us n) (declares vs n) (h.1 n q)

@@ -1,18 +1,18 @@
 -- A heading without faults of scopes has formals that are distinct, each specified once.
-use Rattle.std.proofs.Common.{◌≡◌, ◌≢◌, ℕ, Bool, true, false, List, [], ◌∷◌, refl, ap, sym, subst, ◌∙◌}
-use Rattle.std.specs.Prelude.{◌++◌, ◌==◌, ◌||◌, ◌&&◌, not, if◌then◌else◌}
+use Rattle.std.proofs.Common.{◌≡◌, ◌≢◌, ℕ, Bool, true, false, List, [], ◌∷◌, refl, ap, sym, ◌∙◌}
+use Rattle.std.specs.Prelude.{◌==◌, ◌||◌, ◌&&◌, not, if◌then◌else◌}
 use Rattle.std.specs.List.{AllByRecursion, flat_map, list_any}
 use Rattle.gier_tree.specs.declared.kind.Kind.TheVariants.{Undeclared}
 use Rattle.gier_tree.specs.Declaring.{list_of, formals_of}
 use Rattle.gier_tree.specs.Described.{kind_in, formal_kind, specified_kind, is_named, is_by_value}
-use Rattle.gier_tree.specs.Trees.{Name, IntegerType, BooleanType, TypeWord, ValueType, ValuePart, Specifier, ValueSpec, ArraySpec, LabelSpec, SwitchSpec, StringSpec, ProcedureSpec, FunctionSpec, Specification, Heading, MkHeading}
+use Rattle.gier_tree.specs.Trees.{Name, IntegerType, BooleanType, ValueType, ValuePart, Specifier, ValueSpec, ArraySpec, LabelSpec, SwitchSpec, StringSpec, ProcedureSpec, FunctionSpec, Specification, Heading, MkHeading}
 use Rattle.gier_tree.specs.Described.{value_kind, name_kind, array_formal_kind, function_formal_kind}
 use Rattle.gier_scope.specs.Faults.{DeclaredTwice, NotFormal, SpecifiedTwice, NotSpecified, fault_where}
 use Rattle.gier_scope.specs.Places.{formal_places, heading_places, heading_faults, specified_places, value_places}
 use Rattle.gier_scope.specs.Scopes.{Scope, scope_of, declares}
 use Rattle.gier_fair.specs.InScope.{HasFormals}
 use Rattle.gier_fair.proofs.Apart.{no_fault, Apart, nothing_apart, one_apart, joined}
-use Rattle.gier_fair.proofs.Lists.{three_empty, each_with}
+use Rattle.gier_fair.proofs.Lists.{three_empty}
 use Rattle.gier_fair.proofs.RenamedUses.{mapped}
 
 specified : (a b : Bool) → (not a && not b) ≡ false → a ≡ false → b ≡ true
@@ -84,6 +84,7 @@ formal_seen (s ∷ ss) vs x e = by (is_named x s.names) (declares (scope_of (lis
   where
     more : List Name
     more = flat_map (λ (s : Specification). list_of s.names) ss
+
     by : (c d : Bool) → c ≡ d → (d || declares (scope_of more) x) ≡ true → (declares (scope_of more) x ≡ true → formal_kind ss vs x ≢ Undeclared)
         → (if c then specified_kind s.specifier (is_by_value x vs) else formal_kind ss vs x) ≢ Undeclared
     by true d same q rest = specifier_seen s.specifier (is_by_value x vs)

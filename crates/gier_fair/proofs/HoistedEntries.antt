@@ -1,10 +1,10 @@
 -- The entries of scopes of the hoisted program: their identifiers are some of those that the written scope declares, and each is
 -- described.
-use Rattle.std.proofs.Common.{◌≡◌, ◌≢◌, ℕ, suc, List, [], ◌∷◌, length, Option, None, Some, refl, ap, ap₂, sym, subst, ◌∙◌}
+use Rattle.std.proofs.Common.{◌≡◌, ◌≢◌, ℕ, suc, List, [], ◌∷◌, length, Option, None, Some, refl, ap, ap₂, sym, ◌∙◌}
 use Rattle.std.specs.Prelude.{◌++◌, ◌+◌, map}
 use Rattle.std.proofs.lemmas.List.{append_assoc}
 use Rattle.gier_tree.specs.declared.kind.Kind.TheVariants.{Undeclared}
-use Rattle.gier_tree.specs.Declaring.{list_of, formals_of, names_of_segment, names_of_segments, own_names}
+use Rattle.gier_tree.specs.Declaring.{list_of, names_of_segment, names_of_segments, own_names}
 use Rattle.gier_tree.specs.Described.{Described, kind_in, plain, description, variable_kind, array_kind, procedure_kind, procedure_described}
 use Rattle.gier_tree.specs.Entries.{Entry, entry, segment_entries, segments_entries, declaration_entries, declarations_entries, label_entries}
 use Rattle.gier_tree.specs.Hoist.{hoist_declaration, hoist_declarations}
@@ -12,10 +12,11 @@ use Rattle.gier_tree.specs.OwnCount.{owns_in_declaration}
 use Rattle.gier_tree.specs.Rename.{Renaming, rename_segment, rename_segments}
 use Rattle.gier_tree.specs.Trees.{Name, LabelPlace, ValueType, IntegerType, BooleanType, TypeWord, Segment, MkSegment, NextSegment, Heading, MkHeading, Declaration, DeclareType, DeclareOwn, DeclareArrays, DeclareOwnArrays, DeclareSwitch, DeclareProcedure, Declarations, NoDeclarations, MoreDeclarations}
 use Rattle.std.specs.List.{AllByRecursion}
-use Rattle.gier_scope.specs.Scopes.{Scope, scope_of, label_names, declared_by, declared_by_all}
+use Rattle.gier_scope.specs.Scopes.{scope_of, label_names, declared_by, declared_by_all}
+use Rattle.gier_fair.specs.Hoisted.{IsSeen}
 use Rattle.gier_fair.specs.InScope.{identifiers}
 use Rattle.gier_fair.proofs.Apart.{SomeOf, all_of, none_of, both_of}
-use Rattle.gier_fair.proofs.Layers.{IsSeen, AreSeen, kept_by, kept_by_all, names_by_all}
+use Rattle.gier_fair.proofs.Layers.{AreSeen, kept_by, kept_by_all, names_by_all}
 use Rattle.gier_fair.proofs.Lists.{each_both}
 use Rattle.gier_fair.proofs.RenamedUses.{mapped}
 use Rattle.gier_fair.proofs.ScopesApart.{labels}

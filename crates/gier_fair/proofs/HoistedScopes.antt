@@ -1,20 +1,20 @@
 -- Parts without faults of scopes are in scope when they are hoisted.
-use Rattle.std.proofs.Common.{◌≡◌, ◌<◌, ◌≤◌, ◌⊎◌, inl, inr, ℕ, suc, Bool, true, false, List, [], ◌∷◌, length, refl, ap, ap₂, sym, subst, ◌∙◌, arith}
-use Rattle.std.specs.Prelude.{◌++◌, ◌+◌, ◌||◌, not, map, nat_lt}
-use Rattle.std.specs.List.{AllByRecursion, flat_map}
+use Rattle.std.proofs.Common.{◌≡◌, ◌≤◌, ◌⊎◌, inl, inr, ℕ, suc, Bool, true, false, List, [], ◌∷◌, refl, ap, ap₂, sym, subst, ◌∙◌, arith}
+use Rattle.std.specs.Prelude.{◌++◌, ◌+◌, not, map, nat_lt}
+use Rattle.std.specs.List.{AllByRecursion}
 use Rattle.std.proofs.lemmas.Bool.Decides.{nat_tests}
 use Rattle.std.proofs.lemmas.List.{append_assoc, append-nil}
 use Rattle.gier_tree.specs.Declaring.{list_of, formals_of, name_of_heading, labels_of_statement, labels_of_statements, names_of_segment, labels_of_unconditional}
-use Rattle.gier_tree.specs.Described.{Scopes, kind_in, plain}
+use Rattle.gier_tree.specs.Described.{kind_in, plain}
 use Rattle.gier_tree.specs.Entries.{Entry, entry, entries_numbers, declaration_entries, declarations_entries, label_entries, block_entries, procedure_entries, turn_entries, numbers_unconditional}
-use Rattle.gier_tree.specs.Hoist.{first_fresh, fresh, hide, hide_labels, behind_declaration, behind_declarations, within_block, within_procedure, within_turn, hoist_declaration, hoist_declarations, hoist_group, hoist_statements, hoist_statement, hoist_unconditional, hoist_basic, hoist_conditional, hoist_loop}
-use Rattle.gier_tree.specs.OwnCount.{count_owns, owns_of_declaration, owns_of_declarations, owns_of_group, owns_of_statements, owns_of_statement, owns_of_unconditional, owns_of_conditional, owns_of_loop, owns_of_basic, owns_in_declaration, owns_in_declarations, owns_in_statement, owns_in_unconditional}
+use Rattle.gier_tree.specs.Hoist.{first_fresh, fresh, hide_labels, behind_declarations, within_block, within_procedure, within_turn, hoist_declaration, hoist_declarations, hoist_group, hoist_statements, hoist_statement, hoist_unconditional, hoist_basic, hoist_conditional, hoist_loop}
+use Rattle.gier_tree.specs.OwnCount.{count_owns, owns_of_declarations, owns_of_group, owns_of_statements, owns_of_statement, owns_of_unconditional, owns_of_conditional, owns_of_loop, owns_of_basic, owns_in_declaration, owns_in_declarations, owns_in_statement, owns_in_unconditional}
 use Rattle.gier_tree.specs.Places.{Places, first_formal, block_places, procedure_places, turn_places}
-use Rattle.gier_tree.specs.Rename.{Renaming, rename, rename_expr, rename_exprs, rename_segment, rename_segments}
+use Rattle.gier_tree.specs.Rename.{Renaming, rename, rename_segment, rename_segments}
 use Rattle.gier_tree.specs.Room.{block_header}
 use Rattle.gier_tree.specs.Texts as text
 use Rattle.gier_tree.specs.Texts.{Where, further, inner}
-use Rattle.gier_tree.specs.Trees.{Name, LabelPlace, Segment, MkSegment, NextSegment, Heading, Declaration, DeclareType, DeclareOwn, DeclareArrays, DeclareOwnArrays, DeclareSwitch, DeclareProcedure, Declarations, NoDeclarations, MoreDeclarations, Group, MkBlock, MkCompound, Statements, NoStatements, MoreStatements, Statement, OneUnconditional, OneConditional, OneLoop, Unconditional, MkUnconditional, Basic, OneGroup, Assign, Jump, CallStatement, Dummy, Conditional, IfThen, IfElse, IfLoop, Loop, MkLoop}
+use Rattle.gier_tree.specs.Trees.{Name, Segment, MkSegment, NextSegment, Declaration, DeclareType, DeclareOwn, DeclareArrays, DeclareOwnArrays, DeclareSwitch, DeclareProcedure, Declarations, NoDeclarations, MoreDeclarations, Group, MkBlock, MkCompound, Statements, NoStatements, MoreStatements, Statement, OneUnconditional, OneConditional, OneLoop, Unconditional, MkUnconditional, Basic, OneGroup, Assign, Jump, CallStatement, Dummy, Conditional, IfThen, IfElse, IfLoop, Loop, MkLoop}
 use Rattle.gier_scope.specs.Around.{Around, behind, behind_labels, behind_statement, in_block, in_procedure, in_turn}
 use Rattle.gier_scope.specs.Faults.{NotDeclared, LocalInBound, TooDeep, fault_where}
 use Rattle.gier_scope.specs.Places.{not_declared, in_bound, in_bounds, too_deep, heading_faults, greatest_level}
@@ -23,14 +23,15 @@ use Rattle.gier_scope.specs.Scopes.{Scope, scope_of, declares, is_declared, labe
 use Rattle.gier_scope.specs.Uses.{uses_expr, uses_exprs, uses_call, uses_pairs, uses_parts, uses_list}
 use Rattle.gier_fair.specs.Described.{described, AreDeclared}
 use Rattle.gier_fair.specs.FewNames.{AreBelowFresh, FewNamesDeclaration, FewNamesDeclarations, FewNamesGroup, FewNamesStatements, FewNamesStatement, FewNamesUnconditional, FewNamesBasic, FewNamesConditional, FewNamesLoop}
+use Rattle.gier_fair.specs.Hoisted.{IsSeen, Sees, ScopesAreFair}
 use Rattle.gier_fair.specs.InScope.{AreDistinct, identifiers, InScopeSegment, InScopeDeclaration, InScopeDeclarations, InScopeGroup, InScopeStatements, InScopeStatement, InScopeUnconditional, InScopeBasic, InScopeConditional, InScopeLoop}
 use Rattle.gier_fair.proofs.Apart.{no_fault, lacks, contrary, Apart, joined, outside_both, labels_apart, distinct_both, more_apart, SomeOf, all_of, both_of}
 use Rattle.gier_fair.proofs.Headings.{heading_right}
 use Rattle.gier_fair.proofs.HoistedEntries.{declaration_seen, declarations_seen, labels_seen, formals_seen, formal_identifiers, label_identifiers, joined_identifiers, declaration_identifiers, declarations_identifiers, declaration_some, declarations_some, block_names}
 use Rattle.gier_fair.proofs.LabelsOf.{split_statement, same_statement, same_statements}
-use Rattle.gier_fair.proofs.Layers.{AtLayer, Layer, neither_in, hidden, both_layers, kept_by, kept_by_all, names_by_all, declaration_layer, declarations_layer, IsSeen, AreSeen, Sees, within}
+use Rattle.gier_fair.proofs.Layers.{AtLayer, Layer, neither_in, hidden, both_layers, kept_by, kept_by_all, names_by_all, declaration_layer, declarations_layer, AreSeen, within}
 use Rattle.gier_fair.proofs.Lists.{both_empty, three_empty, four_empty, five_empty, each_empty, each_with, each_both}
-use Rattle.gier_fair.proofs.OwnsOf.{counted_declaration, counted_declarations, counted_statement, counted_statements, counted_unconditional}
+use Rattle.gier_fair.proofs.OwnsOf.{counted_declaration, counted_declarations, counted_statement, counted_unconditional}
 use Rattle.gier_fair.proofs.PlacesTell.{bind_entries, told}
 use Rattle.gier_fair.proofs.RenamedUses.{mapped, renamed_expr, renamed_call, renamed_pairs, renamed_assignment, renamed_loop, renamed_elements}
 use Rattle.gier_fair.proofs.ScopesApart.{labels, declaration_apart, declarations_apart, statement_apart, statements_apart}
@@ -52,11 +53,13 @@ joined_labels a s ss e h = labels_apart a.before (labels_of_statement s []) (lab
 
 -- what is apart from declarations, told one after the other from the last, is so from all of them
 moved_apart : (xs ys zs all : Scope) → all ≡ xs ++ ys → Apart (ys ++ (xs ++ [])) zs → Apart (all ++ []) zs
-moved_apart xs ys zs all same h =
-    (h.0, λ n q.
-    let out = outside_both ys (xs ++ []) n (h.1 n q) in
-    let other = outside_both xs [] n out.1 in
-    joined all [] n ∙ neither_in (declares all n) false (ap (λ s. declares s n) same ∙ joined xs ys n ∙ neither_in (declares xs n) (declares ys n) other.0 out.0) refl)
+moved_apart xs ys zs all same h = (
+  h.0,
+  λ n q.
+      let out = outside_both ys (xs ++ []) n (h.1 n q) in
+      let other = outside_both xs [] n out.1 in
+      joined all [] n ∙ neither_in (declares all n) false (ap (λ s. declares s n) same ∙ joined xs ys n ∙ neither_in (declares xs n) (declares ys n) other.0 out.0) refl,
+)
 
 module _ (owns : ℕ) where
   abbrev SeesAll : List Scope → Renaming → Places → Type 0
@@ -114,6 +117,7 @@ module _ (owns : ℕ) where
     where
       above : (y : ℕ) → first_fresh ≤ y → declares own y ≡ false
       above y le = lacks (declares own y) (λ q. let lt = few y (some.1 y q) in absurd (omega (arith, le, lt)))
+
       by : AtLayer owns names own x (f x) (g x) → (f x ≡ x) ⊎ (first_fresh ≤ f x) → declares own (g x) ≡ false
       by (inl u) (inl v) = subst (λ y. declares own y ≡ false) (sym (u.1 ∙ v)) (lacks (declares own x) (λ q. contrary (declares names x) (some.1 x q) out))
       by (inl u) (inr v) = subst (λ y. declares own y ≡ false) (sym u.1) (above (f x) v)
@@ -169,9 +173,10 @@ module _ (owns : ℕ) where
     declarations_in block outer before level p own f i w (MoreDeclarations d l ds) k local at few le e =
         let a : Around = record { scopes = block ∷ outer; before = before; level = level } in
         let counted = counted_declaration d (owns_of_declarations ds []) in
-        let q = both_empty (faults_declaration a d) (faults_declarations (behind (declared_by d) a) ds) e in
-        (declaration_in block outer before level p own f i w d k local at few.0 (omega (arith, le, counted)) q.0,
-        declarations_in block outer (scope_of (declared_by d) ++ before) level p own f (i + owns_in_declaration d) (text.behind_declaration w (hoist_declaration d i f)) ds k local at few.1 (omega (arith, le, counted)) q.1)
+        let q = both_empty (faults_declaration a d) (faults_declarations (behind (declared_by d) a) ds) e in (
+          declaration_in block outer before level p own f i w d k local at few.0 (omega (arith, le, counted)) q.0,
+          declarations_in block outer (scope_of (declared_by d) ++ before) level p own f (i + owns_in_declaration d) (text.behind_declaration w (hoist_declaration d i f)) ds k local at few.1 (omega (arith, le, counted)) q.1,
+        )
 
     pub group_in : (a : Around) (p : Places) (f : Renaming) (i : ℕ) (w : Where) (g : Group) → SeesAll a.scopes f p → w.level ≡ a.level → FewNamesGroup g → i + count_owns (owns_of_group g []) ≤ owns
         → faults_group a g ≡ [] → InScopeGroup p w (hoist_group g i f)
@@ -200,18 +205,18 @@ module _ (owns : ℕ) where
         let all = scope_of (declared_by d) ++ (names_by_all owns ds ++ labels ls) in
         let names : block ≡ all = block_names owns d ds ls in
         let ids : identifiers es ≡ kept =
-            joined_identifiers (declaration_entries d1 ++ declarations_entries ds1) (label_entries ls1)
-            ∙ ap₂ (λ a b. a ++ b) (joined_identifiers (declaration_entries d1) (declarations_entries ds1) ∙ ap₂ (λ a b. a ++ b) (declaration_identifiers owns d i g) (declarations_identifiers owns ds j g)) (label_identifiers ls1 ∙ ap labels same)
-            ∙ append_assoc (kept_by owns d) (kept_by_all owns ds) (labels ls) in
+        joined_identifiers (declaration_entries d1 ++ declarations_entries ds1) (label_entries ls1)
+        ∙ ap₂ (λ a b. a ++ b) (joined_identifiers (declaration_entries d1) (declarations_entries ds1) ∙ ap₂ (λ a b. a ++ b) (declaration_identifiers owns d i g) (declarations_identifiers owns ds j g)) (label_identifiers ls1 ∙ ap labels same)
+        ∙ append_assoc (kept_by owns d) (kept_by_all owns ds) (labels ls) in
         let f1 = hide_labels ls f in
         let f2 = behind_declarations ds j f1 in
         let layer : Layer owns all kept f g =
-            both_layers owns (names_by_all owns ds ++ labels ls) (kept_by_all owns ds ++ labels ls) (scope_of (declared_by d)) (kept_by owns d) f f2 g
-            (both_layers owns (labels ls) (labels ls) (names_by_all owns ds) (kept_by_all owns ds) f f1 f2 (hidden owns (label_names ls) f) (declarations_layer owns ds j f1 (omega (arith, le, c1, c2))))
-            (declaration_layer owns d i f2 (omega (arith, le, c1))) in
+        both_layers owns (names_by_all owns ds ++ labels ls) (kept_by_all owns ds ++ labels ls) (scope_of (declared_by d)) (kept_by owns d) f f2 g
+        (both_layers owns (labels ls) (labels ls) (names_by_all owns ds) (kept_by_all owns ds) f f1 f2 (hidden owns (label_names ls) f) (declarations_layer owns ds j f1 (omega (arith, le, c1, c2))))
+        (declaration_layer owns d i f2 (omega (arith, le, c1))) in
         let layer1 = subst (λ xs. Layer owns block xs f g) (sym ids) (subst (λ xs. Layer owns xs kept f g) (sym names) layer) in
         let some : SomeOf kept all = both_of (kept_by owns d) (scope_of (declared_by d)) (kept_by_all owns ds ++ labels ls) (names_by_all owns ds ++ labels ls) (declaration_some owns d)
-            (both_of (kept_by_all owns ds) (names_by_all owns ds) (labels ls) (labels ls) (declarations_some owns ds) (all_of (labels ls))) in
+        (both_of (kept_by_all owns ds) (names_by_all owns ds) (labels ls) (labels ls) (declarations_some owns ds) (all_of (labels ls))) in
         let some1 = subst (λ xs. SomeOf xs block) (sym ids) (subst (SomeOf kept) (sym names) some) in
         let seen = each_both (λ e. IsSeen e.what) (declaration_entries d1 ++ declarations_entries ds1) (label_entries ls1) (each_both (λ e. IsSeen e.what) (declaration_entries d1) (declarations_entries ds1) (declaration_seen d1) (declarations_seen ds1)) (labels_seen ls1) in
         let place = block_places (suc w.level) w.numbers d1 ds1 s1 ss1 p in
@@ -226,26 +231,30 @@ module _ (owns : ℕ) where
         let w1 = inner w es in
         let w2 = text.behind_declaration w1 d1 in
         let w3 = text.behind_declarations w2 ds1 in
-        let up = ap suc at in
-        (subst (λ n. suc n ≤ greatest_level) (sym at) (level_right b.level l q.0), some1.0 distinct,
-        declaration_in block a.scopes [] b.level place (identifiers es) g i w1 d k1 local up few.1 (omega (arith, le, c1)) q.1,
-        declarations_in block a.scopes (scope_of (declared_by d) ++ []) b.level place (identifiers es) g j w2 ds k1 local up few.2 (omega (arith, le, c1, c2)) q.2,
-        statement_in o place g j2 w3 s k1 up few.3 (omega (arith, le, c1, c2, c3)) q.3,
-        statements_in (behind_statement s o) place g j3 (text.behind_statement w3 s1) ss k1 up few.4 (omega (arith, le, c1, c2, c3)) q.4)
+        let up = ap suc at in (
+          subst (λ n. suc n ≤ greatest_level) (sym at) (level_right b.level l q.0),
+          some1.0 distinct,
+          declaration_in block a.scopes [] b.level place (identifiers es) g i w1 d k1 local up few.1 (omega (arith, le, c1)) q.1,
+          declarations_in block a.scopes (scope_of (declared_by d) ++ []) b.level place (identifiers es) g j w2 ds k1 local up few.2 (omega (arith, le, c1, c2)) q.2,
+          statement_in o place g j2 w3 s k1 up few.3 (omega (arith, le, c1, c2, c3)) q.3,
+          statements_in (behind_statement s o) place g j3 (text.behind_statement w3 s1) ss k1 up few.4 (omega (arith, le, c1, c2, c3)) q.4,
+        )
     group_in a p f i w (MkCompound l s ss n) k at few le e =
         let counted = counted_statement s (owns_of_statements ss []) in
-        let q = both_empty (faults_statement a s) (faults_statements (behind_statement s a) ss) e in
-        (statement_in a p f i w s k at few.0 (omega (arith, le, counted)) q.0,
-        statements_in (behind_statement s a) p f (i + owns_in_statement s) (text.behind_statement w (hoist_statement s i f)) ss k at few.1 (omega (arith, le, counted)) q.1)
+        let q = both_empty (faults_statement a s) (faults_statements (behind_statement s a) ss) e in (
+          statement_in a p f i w s k at few.0 (omega (arith, le, counted)) q.0,
+          statements_in (behind_statement s a) p f (i + owns_in_statement s) (text.behind_statement w (hoist_statement s i f)) ss k at few.1 (omega (arith, le, counted)) q.1,
+        )
 
     pub statements_in : (a : Around) (p : Places) (f : Renaming) (i : ℕ) (w : Where) (ss : Statements) → SeesAll a.scopes f p → w.level ≡ a.level → FewNamesStatements ss → i + count_owns (owns_of_statements ss []) ≤ owns
         → faults_statements a ss ≡ [] → InScopeStatements p w (hoist_statements ss i f)
     statements_in a p f i w NoStatements k at few le e = tt
     statements_in a p f i w (MoreStatements l s ss) k at few le e =
         let counted = counted_statement s (owns_of_statements ss []) in
-        let q = both_empty (faults_statement a s) (faults_statements (behind_statement s a) ss) e in
-        (statement_in a p f i w s k at few.0 (omega (arith, le, counted)) q.0,
-        statements_in (behind_statement s a) p f (i + owns_in_statement s) (text.behind_statement w (hoist_statement s i f)) ss k at few.1 (omega (arith, le, counted)) q.1)
+        let q = both_empty (faults_statement a s) (faults_statements (behind_statement s a) ss) e in (
+          statement_in a p f i w s k at few.0 (omega (arith, le, counted)) q.0,
+          statements_in (behind_statement s a) p f (i + owns_in_statement s) (text.behind_statement w (hoist_statement s i f)) ss k at few.1 (omega (arith, le, counted)) q.1,
+        )
 
     pub statement_in : (a : Around) (p : Places) (f : Renaming) (i : ℕ) (w : Where) (s : Statement) → SeesAll a.scopes f p → w.level ≡ a.level → FewNamesStatement s → i + owns_in_statement s ≤ owns
         → faults_statement a s ≡ [] → InScopeStatement p w (hoist_statement s i f)
@@ -276,9 +285,11 @@ module _ (owns : ℕ) where
         let b = behind_labels ls a in
         let c = behind_labels (labels_of_unconditional u []) b in
         let q = four_empty (labels_in a ls) (uses_in a (uses_expr x)) (faults_unconditional b u) (faults_statement c s) e in
-        let counted = counted_unconditional u (owns_of_statement s []) in
-        (declared a.scopes f p k (uses_expr x) _ (renamed_expr f x) q.1, unconditional_in b p f i w u k at few.0 (omega (arith, le, counted)) q.2,
-        statement_in c p f (i + owns_in_unconditional u) (further w (numbers_unconditional (hoist_unconditional u i f)) (owns_in_unconditional (hoist_unconditional u i f))) s k at few.1 (omega (arith, le, counted)) q.3)
+        let counted = counted_unconditional u (owns_of_statement s []) in (
+          declared a.scopes f p k (uses_expr x) _ (renamed_expr f x) q.1,
+          unconditional_in b p f i w u k at few.0 (omega (arith, le, counted)) q.2,
+          statement_in c p f (i + owns_in_unconditional u) (further w (numbers_unconditional (hoist_unconditional u i f)) (owns_in_unconditional (hoist_unconditional u i f))) s k at few.1 (omega (arith, le, counted)) q.3,
+        )
     conditional_in a p f i w (IfLoop ls l x m y) k at few le e =
         let b = behind_labels ls a in
         let q = three_empty (labels_in a ls) (uses_in a (uses_expr x)) (faults_loop b y) e in
@@ -295,6 +306,11 @@ module _ (owns : ℕ) where
         let same : labels_of_statement s1 [] ≡ own = same_statement s i g [] in
         let ids : identifiers es ≡ labels own = label_identifiers (labels_of_statement s1 []) ∙ ap labels same in
         let layer = subst (λ xs. Layer owns (turn_scope s) xs f g) (sym ids) (hidden owns (label_names own) f) in
-        let k1 = subst (Sees owns (λ x. is_declared (turn_scope s ∷ a.scopes) x) g) (told w.level 0 w.numbers es p) (new a.scopes (turn_scope s) es w.level 0 w.numbers f g p (labels_seen (labels_of_statement s1 [])) layer k) in
-        (declared a.scopes f p k (x ∷ uses_list t ts) _ (renamed_loop f x t ts) q.1, subst AreDistinct (sym ids) (statement_apart (in_turn s a) s q.2).0,
-        statement_in (in_turn s a) (turn_places w.level w.numbers s1 p) g i (further w (entries_numbers es) 0) s k1 at few le q.2)
+        let k1 = subst (Sees owns (λ x. is_declared (turn_scope s ∷ a.scopes) x) g) (told w.level 0 w.numbers es p) (new a.scopes (turn_scope s) es w.level 0 w.numbers f g p (labels_seen (labels_of_statement s1 [])) layer k) in (
+          declared a.scopes f p k (x ∷ uses_list t ts) _ (renamed_loop f x t ts) q.1,
+          subst AreDistinct (sym ids) (statement_apart (in_turn s a) s q.2).0,
+          statement_in (in_turn s a) (turn_places w.level w.numbers s1 p) g i (further w (entries_numbers es) 0) s k1 at few le q.2,
+        )
+
+pub scopes_are_fair : ScopesAreFair
+scopes_are_fair owns a p f i w s k at few le e = statement_in owns a p f i w s k at few le e

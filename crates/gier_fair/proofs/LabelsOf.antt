@@ -1,12 +1,12 @@
 -- The labels of a statement stand before those of what follows it, and hoisting changes none of them.
-use Rattle.std.proofs.Common.{◌≡◌, ℕ, List, [], ◌∷◌, refl, ap, sym, ◌∙◌}
+use Rattle.std.proofs.Common.{◌≡◌, ℕ, List, [], refl, ap, sym, ◌∙◌}
 use Rattle.std.specs.Prelude.{◌++◌, ◌+◌}
 use Rattle.std.proofs.lemmas.List.{append_assoc, append-nil}
 use Rattle.gier_tree.specs.Declaring.{labels_of_statement, labels_of_statements, labels_of_unconditional, labels_of_basic, labels_of_group, labels_of_conditional, labels_of_loop}
 use Rattle.gier_tree.specs.Hoist.{hoist_group, hoist_statements, hoist_statement, hoist_unconditional, hoist_basic, hoist_conditional, hoist_loop}
 use Rattle.gier_tree.specs.OwnCount.{owns_in_statement, owns_in_unconditional}
 use Rattle.gier_tree.specs.Rename.{Renaming}
-use Rattle.gier_tree.specs.Trees.{LabelPlace, Declaration, DeclareType, DeclareOwn, DeclareArrays, DeclareOwnArrays, DeclareSwitch, DeclareProcedure, Declarations, NoDeclarations, MoreDeclarations, Group, MkBlock, MkCompound, Statements, NoStatements, MoreStatements, Statement, OneUnconditional, OneConditional, OneLoop, Unconditional, MkUnconditional, Basic, OneGroup, Assign, Jump, CallStatement, Dummy, Conditional, IfThen, IfElse, IfLoop, Loop, MkLoop}
+use Rattle.gier_tree.specs.Trees.{LabelPlace, Group, MkBlock, MkCompound, Statements, NoStatements, MoreStatements, Statement, OneUnconditional, OneConditional, OneLoop, Unconditional, MkUnconditional, Basic, OneGroup, Assign, Jump, CallStatement, Dummy, Conditional, IfThen, IfElse, IfLoop, Loop, MkLoop}
 
 -- what puts some labels before those that follow
 abbrev Puts : (List LabelPlace → List LabelPlace) → Type 0

@@ -1,20 +1,20 @@
 -- What a scope makes of an identifier, in the written program and in the hoisted one: it leaves it to the scopes around, declares it,
 -- or has an own quantity of that identifier, which then has a fresh one.
-use Rattle.std.proofs.Common.{◌≡◌, ◌≢◌, ◌<◌, ◌≤◌, ◌⊎◌, inl, inr, ℕ, suc, Bool, true, false, List, [], ◌∷◌, length, refl, ap, sym, subst, ◌∙◌, arith}
-use Rattle.std.specs.Prelude.{◌++◌, ◌==◌, ◌||◌, ◌+◌, ◌^◌, map, if◌then◌else◌}
+use Rattle.std.proofs.Common.{◌≡◌, ◌<◌, ◌≤◌, ◌⊎◌, inl, inr, ℕ, suc, Bool, true, false, List, [], ◌∷◌, length, refl, ap, sym, subst, ◌∙◌, arith}
+use Rattle.std.specs.Prelude.{◌++◌, ◌==◌, ◌||◌, ◌+◌, if◌then◌else◌}
 use Rattle.std.specs.List.{AllByRecursion}
 use Rattle.std.proofs.lemmas.Bool.{eqb-true, eqb-false, eq-eqb, ne_eqb}
-use Rattle.gier_tree.specs.declared.kind.Kind.TheVariants.{Undeclared}
 use Rattle.gier_tree.specs.Declaring.{list_of, own_names, name_of_heading, names_of_segment, names_of_segments}
-use Rattle.gier_tree.specs.Described.{Described, Scopes, bind}
+use Rattle.gier_tree.specs.Described.{Described, Scopes}
 use Rattle.gier_tree.specs.Entries.{Entry}
 use Rattle.gier_tree.specs.Hoist.{first_fresh, fresh, means, hide, own, behind_declaration, behind_declarations}
 use Rattle.gier_tree.specs.OwnCount.{owns_in_declaration, owns_in_declarations, owns_of_declarations}
 use Rattle.gier_tree.specs.Rename.{Renaming}
 use Rattle.gier_tree.specs.Trees.{Name, Declaration, DeclareType, DeclareOwn, DeclareArrays, DeclareOwnArrays, DeclareSwitch, DeclareProcedure, Declarations, NoDeclarations, MoreDeclarations}
-use Rattle.gier_scope.specs.Scopes.{Scope, scope_of, declares, declared_by, declared_by_all}
+use Rattle.gier_scope.specs.Scopes.{Scope, scope_of, declares, declared_by}
+use Rattle.gier_fair.specs.Hoisted.{IsSeen, Sees}
 use Rattle.gier_fair.specs.InScope.{identifiers}
-use Rattle.gier_fair.proofs.Apart.{joined, contrary}
+use Rattle.gier_fair.proofs.Apart.{joined}
 use Rattle.gier_fair.proofs.OwnsOf.{counted_declaration}
 use Rattle.gier_fair.proofs.PlacesTell.{bind_entries}
 
@@ -111,9 +111,6 @@ module _ (owns : ℕ) where
 
 -- ---- what is declared is described
 
-abbrev pub IsSeen : Described → Type 0
-IsSeen d = d.kind ≢ Undeclared
-
 abbrev pub AreSeen : List Entry → Type 0
 AreSeen es = AllByRecursion (λ e. IsSeen e.what) es
 
@@ -134,12 +131,6 @@ seen_inside (e ∷ es) at y h q = by (y == e.name.number) refl (λ r. seen_insid
     by true u rest q = h.0
     by false u rest q = rest (subst (λ b. (b || declares (identifiers es) y) ≡ true) (ne_eqb e.name.number y (λ r. eqb-false y e.name.number u (sym r))) q)
 
--- what the scopes of the written program declare, those of the hoisted one describe
-pub record Sees (owns : ℕ) (Declared : ℕ → Bool) (f : Renaming) (at : Scopes) : Type 0 where
-  pub sees : (x : ℕ) → Declared x ≡ true → IsSeen (at (f x))
-  pub fresh_seen : (j : ℕ) → j < owns → IsSeen (at (fresh j))
-  pub stays : (x : ℕ) → (f x ≡ x) ⊎ (first_fresh ≤ f x)
-
 pub within : (owns : ℕ) (Declared : ℕ → Bool) (f g : Renaming) (at : Scopes) (names : Scope) (es : List Entry) → AreSeen es → Layer owns names (identifiers es) f g
     → Sees owns Declared f at → Sees owns (λ x. declares names x || Declared x) g (bind_entries es at)
 within owns Declared f g at names es h layer k = record {
@@ -151,10 +142,12 @@ within owns Declared f g at names es h layer k = record {
     second : (a b : Bool) → a ≡ false → (a || b) ≡ true → b ≡ true
     second false b e q = q
     second true b e q = cc
+
     sees_by : (x : ℕ) → AtLayer owns names (identifiers es) x (f x) (g x) → (declares names x || Declared x) ≡ true → IsSeen (bind_entries es at (g x))
     sees_by x (inl u) q = subst (λ y. IsSeen (bind_entries es at y)) (sym u.1) (seen_outside es at (f x) h (k.sees x (second (declares names x) (Declared x) u.0 q)))
     sees_by x (inr (inl u)) q = subst (λ y. IsSeen (bind_entries es at y)) (sym u.0) (seen_inside es at x h u.1)
     sees_by x (inr (inr u)) q = subst (λ y. IsSeen (bind_entries es at y)) (sym u.2) (seen_outside es at (fresh u.0) h (k.fresh_seen u.0 u.1))
+
     stays_by : (x : ℕ) → AtLayer owns names (identifiers es) x (f x) (g x) → (f x ≡ x) ⊎ (first_fresh ≤ f x) → (g x ≡ x) ⊎ (first_fresh ≤ g x)
     stays_by x (inl u) (inl v) = inl (u.1 ∙ v)
     stays_by x (inl u) (inr v) = inr (subst (λ y. first_fresh ≤ y) (sym u.1) v)

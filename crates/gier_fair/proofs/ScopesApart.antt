@@ -1,8 +1,8 @@
 -- What a part without faults of scopes declares is distinct, and apart from what its scope declares before it.
-use Rattle.std.proofs.Common.{◌≡◌, ℕ, suc, List, [], ◌∷◌, refl, ap, sym, subst}
-use Rattle.std.specs.Prelude.{◌++◌, map}
-use Rattle.gier_tree.specs.Declaring.{list_of, formals_of, name_of_heading, names_of_segment, names_of_segments, own_names, labels_of_statement, labels_of_statements, labels_of_unconditional, labels_of_basic, labels_of_group, labels_of_conditional, labels_of_loop}
-use Rattle.gier_tree.specs.Trees.{Name, LabelPlace, Segment, MkSegment, NextSegment, Heading, Declaration, DeclareType, DeclareOwn, DeclareArrays, DeclareOwnArrays, DeclareSwitch, DeclareProcedure, Declarations, NoDeclarations, MoreDeclarations, Group, MkBlock, MkCompound, Statements, NoStatements, MoreStatements, Statement, OneUnconditional, OneConditional, OneLoop, Unconditional, MkUnconditional, Basic, OneGroup, Assign, Jump, CallStatement, Dummy, Conditional, IfThen, IfElse, IfLoop, Loop, MkLoop}
+use Rattle.std.proofs.Common.{◌≡◌, suc, List, [], ◌∷◌, sym, subst}
+use Rattle.std.specs.Prelude.{◌++◌}
+use Rattle.gier_tree.specs.Declaring.{list_of, name_of_heading, names_of_segment, names_of_segments, own_names, labels_of_statement, labels_of_statements, labels_of_unconditional, labels_of_basic, labels_of_group, labels_of_conditional, labels_of_loop}
+use Rattle.gier_tree.specs.Trees.{LabelPlace, Segment, MkSegment, NextSegment, Declaration, DeclareType, DeclareOwn, DeclareArrays, DeclareOwnArrays, DeclareSwitch, DeclareProcedure, Declarations, NoDeclarations, MoreDeclarations, Group, MkBlock, MkCompound, Statements, NoStatements, MoreStatements, Statement, OneUnconditional, OneConditional, OneLoop, Unconditional, MkUnconditional, Basic, OneGroup, Assign, Jump, CallStatement, Dummy, Conditional, IfThen, IfElse, IfLoop, Loop, MkLoop}
 use Rattle.gier_scope.specs.Around.{Around, behind, behind_labels, behind_statement, in_procedure, in_turn}
 use Rattle.gier_scope.specs.Places.{in_bounds, too_deep, heading_faults}
 use Rattle.gier_scope.specs.ScopeFaults.{places_in, uses_in, labels_in, faults_segment, faults_segments, faults_declaration, faults_declarations, faults_group, faults_statements, faults_statement, faults_unconditional, faults_basic, faults_conditional, faults_loop, procedure_line}

@@ -1,4 +1,5 @@
 // The laws of fair programs. They have no code: each says what its contract says.
+ghost use Rattle.gier_fair.specs.Hoisted.{ScopesAreFair};
 ghost use Rattle.gier_fair.specs.Laws.{ExpressionsAreFair, TypesAreFair};
 
 /// An expression whose identifiers are declared, and which has no faults of types, is fair and has its type.
@@ -9,4 +10,9 @@ pub fn law_fair_expressions()
 /// A program whose scopes are right, and which has no faults of types, is fair.
 pub fn law_fair_types()
     ensures { TypesAreFair }
+{}
+
+/// A statement without faults of scopes is in scope when it is hoisted, wherever places describe what is declared around it.
+pub fn law_fair_scopes()
+    ensures { ScopesAreFair }
 {}
