@@ -14,3 +14,4 @@ pub mod Layers
 pub mod Headings
 pub mod HoistedEntries
 pub mod HoistedScopes
+pub mod Examples

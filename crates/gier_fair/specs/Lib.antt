@@ -5,3 +5,4 @@ pub mod FewNames
 pub mod Hoisted
 pub mod Fair
 pub mod Laws
+pub mod Examples

@@ -1,4 +1,5 @@
 // The laws of fair programs. They have no code: each says what its contract says.
+ghost use Rattle.gier_fair.specs.Examples.{AreExamples};
 ghost use Rattle.gier_fair.specs.Hoisted.{ScopesAreFair};
 ghost use Rattle.gier_fair.specs.Laws.{ExpressionsAreFair, TypesAreFair};
 
@@ -15,4 +16,9 @@ pub fn law_fair_types()
 /// A statement without faults of scopes is in scope when it is hoisted, wherever places describe what is declared around it.
 pub fn law_fair_scopes()
     ensures { ScopesAreFair }
+{}
+
+/// A small program is fair, and programs with one thing wrong are not.
+pub fn law_fair_examples()
+    ensures { AreExamples }
 {}

@@ -4,4 +4,4 @@
 
 mod laws;
 
-pub use laws::{law_fair_expressions, law_fair_scopes, law_fair_types};
+pub use laws::{law_fair_examples, law_fair_expressions, law_fair_scopes, law_fair_types};
