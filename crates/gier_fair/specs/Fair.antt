@@ -1,5 +1,5 @@
--- Fair programs: their scopes are right, and each place has what it takes (Report 4, 5). Each statement stands where its places tell
--- what each identifier is, and within some functions, whose values may be assigned there.
+-- Fair programs: their scopes are right, and each place has what it takes (Report 4, 5). Each statement stands where its places
+-- tell what each identifier is, and within some functions, whose values may be assigned there.
 use Rattle.std.specs.Prelude.{◌≡◌, ◌≤◌, ℕ, suc, Bool, true, false, ◌∷◌, length, ⊤}
 use Rattle.std.specs.List.{AllByRecursion}
 use Rattle.gier_tree.specs.Declaring.{formals_of, name_of_heading}

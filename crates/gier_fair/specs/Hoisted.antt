@@ -1,5 +1,5 @@
--- A part of the written program where it stands in the hoisted one: each identifier that is declared for the one is described for the
--- other, under the number that its uses have there.
+-- A part of the written program where it stands in the hoisted one: each identifier that is declared for the one is described
+-- for the other, under the number that its uses have there.
 use Rattle.std.specs.Prelude.{◌≡◌, ◌≢◌, ◌<◌, ◌≤◌, ◌⊎◌, ◌+◌, ℕ, Bool, true, []}
 use Rattle.gier_tree.specs.declared.kind.Kind.TheVariants.{Undeclared}
 use Rattle.gier_tree.specs.Described.{Described, Scopes}
