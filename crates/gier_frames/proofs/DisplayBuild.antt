@@ -136,3 +136,6 @@ none_at n level = elim (cases_lt level n) [
 
 pub shown_answers : (shown : Shown) (words : List ℕ) (base level : ℕ) → Shows shown words base → level < 256 → base_or_halt (slice_index shown.by_level level) ≡ sought (suc base) words level base
 shown_answers shown words base level so small = so.answers level small
+
+-- how the walk begins, goes on and ends
+pub ruleset display_walk = (begin, step, ends, past)

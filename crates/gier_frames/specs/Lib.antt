@@ -7,3 +7,4 @@ pub mod Walk
 pub mod Display
 pub mod Answers
 pub mod Stop
+pub mod Reach

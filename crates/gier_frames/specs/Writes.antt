@@ -1,5 +1,5 @@
 -- Writes to many words of a list: a run of zeros, a run of values, and an activation's header.
-use Rattle.std.specs.Prelude.{◌+◌, ◌++◌, ℕ, zero, suc, List, [], ◌∷◌, slice_index, slice_set}
+use Rattle.std.specs.Prelude.{◌≡◌, ◌+◌, ◌++◌, ℕ, zero, suc, List, [], ◌∷◌, length, slice_index, slice_set}
 
 -- n words from a place on made 0
 abbrev pub with_zeros : List ℕ → ℕ → ℕ → List ℕ
@@ -23,3 +23,8 @@ with_two words at first second = slice_set (slice_set words at first) (at + 1) s
 -- the header of an activation: the base before it, its level with the base that encloses it, and the word after it
 abbrev pub with_header : List ℕ → ℕ → ℕ → ℕ → ℕ → List ℕ
 with_header words at old head end = slice_set (with_two words at old head) (at + 2) end
+
+-- the words become others, as many as they were
+pub record Rewrites (old others new : List ℕ) : Type 0 where
+  pub words : new ≡ others
+  pub size : length new ≡ length old

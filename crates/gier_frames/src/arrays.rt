@@ -6,6 +6,7 @@ ghost use Rattle.gier_frames.specs.Refusals.{is_array, array_refusal, elements_r
 ghost use Rattle.gier_frames.specs.Effects.{with_array, array_words};
 ghost use Rattle.gier_frames.specs.Numbers.{elements};
 ghost use Rattle.gier_frames.specs.Walk.{element_of};
+ghost use Rattle.gier_frames.specs.Reach.{Reaches};
 ghost use Rattle.gier_frames.specs.Writes.{with_zeros, words_from, with_values, with_two};
 
 use crate::bounds::{MOST_DIMENSIONS, count_elements, element, have_order};
@@ -77,8 +78,7 @@ fn can_hold(size: u64, d: u64, place: u64, from: u64, base: u64) -> bool
 
 // How many elements there are, where they fit.
 fn elements_for(words: &Region, from: u64, d: u64, top: u64) -> Result<u64, Halt>
-    requires within { from + 2 * d ≤ length words.now.words }
-    requires limit { length words.now.words < 2 ^ 24 }
+    requires bounds { Reaches words.now.words from (2 * d) }
     requires top { top < 2 ^ 24 }
     ensures refused { Answers (elements_refusal words.now.words from d top) result }
     ensures count { IfOk result (λ n. (n ≡ elements words.now.words from d) × (top + n ≤ length words.now.words)) }
@@ -102,9 +102,8 @@ fn elements_for(words: &Region, from: u64, d: u64, top: u64) -> Result<u64, Halt
 fn make_array(words: &mut Region, bounds: &Vec<u64>, d: u64, place: u64, top: u64, count: u64)
     requires d { d ≤ 30 }
     requires place { place + 2 + length bounds.now.items ≤ length words.old.words }
-    requires top { top + count ≤ length words.old.words }
+    requires top { Reaches words.old.words top count }
     requires small { (k : ℕ) → slice_index bounds.now.items k < 2 ^ 40 }
-    requires limit { length words.old.words < 2 ^ 24 }
     ensures words { words.new.words ≡ with_values (with_two (with_zeros words.old.words top count) place top d)
         (place + 2) bounds.now.items
         (length bounds.now.items) }

@@ -2,6 +2,7 @@
 ghost use Rattle.std.specs.Prelude.{◌≡◌, ◌+◌, ◌*◌, ◌<◌, ◌≤◌, ◌^◌, ◌&&◌, nat_le, MatchOption, length, slice_index};
 ghost use Rattle.gier_frames.specs.Numbers.{excess_number, lower, upper, extent, are_ordered, elements, subscript, are_within};
 ghost use Rattle.gier_frames.specs.Numbers.{offset, element_in, element_by, element_at};
+ghost use Rattle.gier_frames.specs.Reach.{Reaches};
 
 use crate::Halt;
 use crate::walk::BASES;
@@ -28,8 +29,7 @@ fn number_at(words: &Region, place: u64) -> u64
 }
 
 fn lower_at(words: &Region, at: u64, i: u64) -> u64
-    requires within { at + 2 * i + 2 ≤ length words.now.words }
-    requires limit { length words.now.words < 2 ^ 24 }
+    requires bounds { Reaches words.now.words at (2 * i + 2) }
     ensures value { result ≡ lower words.now.words at i }
     ensures range { result < 2 ^ 40 }
 {
@@ -37,8 +37,7 @@ fn lower_at(words: &Region, at: u64, i: u64) -> u64
 }
 
 fn upper_at(words: &Region, at: u64, i: u64) -> u64
-    requires within { at + 2 * i + 2 ≤ length words.now.words }
-    requires limit { length words.now.words < 2 ^ 24 }
+    requires bounds { Reaches words.now.words at (2 * i + 2) }
     ensures value { result ≡ upper words.now.words at i }
     ensures range { result < 2 ^ 40 }
 {
@@ -47,8 +46,7 @@ fn upper_at(words: &Region, at: u64, i: u64) -> u64
 
 // How many subscripts the i-th pair of bounds allows.
 fn extent_at(words: &Region, at: u64, i: u64) -> u64
-    requires within { at + 2 * i + 2 ≤ length words.now.words }
-    requires limit { length words.now.words < 2 ^ 24 }
+    requires bounds { Reaches words.now.words at (2 * i + 2) }
     ensures value { result ≡ extent words.now.words at i }
     ensures range { result ≤ 2 ^ 40 }
 {
@@ -56,8 +54,7 @@ fn extent_at(words: &Region, at: u64, i: u64) -> u64
 }
 
 fn is_ordered(words: &Region, at: u64, i: u64) -> bool
-    requires within { at + 2 * i + 2 ≤ length words.now.words }
-    requires limit { length words.now.words < 2 ^ 24 }
+    requires bounds { Reaches words.now.words at (2 * i + 2) }
     ensures { result ≡ nat_le (lower words.now.words at i) (upper words.now.words at i) }
 {
     lower_at(words, at, i) <= upper_at(words, at, i)
@@ -65,8 +62,7 @@ fn is_ordered(words: &Region, at: u64, i: u64) -> bool
 
 // Whether no upper bound of d pairs lies below its lower bound.
 pub(crate) fn have_order(words: &Region, at: u64, d: u64) -> bool
-    requires within { at + 2 * d ≤ length words.now.words }
-    requires limit { length words.now.words < 2 ^ 24 }
+    requires bounds { Reaches words.now.words at (2 * d) }
     ensures { result ≡ are_ordered words.now.words at d }
 {
     let mut so_far = true;
@@ -79,8 +75,7 @@ pub(crate) fn have_order(words: &Region, at: u64, d: u64) -> bool
 // How many elements d pairs of bounds give, and None where they are more than there are words.
 #[tactic(auto, using(crate::proofs::Extents::elements_grow))]
 pub(crate) fn count_elements(words: &Region, at: u64, d: u64) -> Option<u64>
-    requires within { at + 2 * d ≤ length words.now.words }
-    requires limit { length words.now.words < 2 ^ 24 }
+    requires bounds { Reaches words.now.words at (2 * d) }
     ensures { MatchOption result (length words.now.words < elements words.now.words at d)
         (λ n. (n ≡ elements words.now.words at d) × (n ≤ length words.now.words)) }
 {
@@ -96,8 +91,7 @@ pub(crate) fn count_elements(words: &Region, at: u64, d: u64) -> Option<u64>
 }
 
 fn subscript_at(words: &Region, from: u64, i: u64) -> u64
-    requires within { from + i < length words.now.words }
-    requires limit { length words.now.words < 2 ^ 24 }
+    requires subscript { Reaches words.now.words from (i + 1) }
     ensures value { result ≡ subscript words.now.words from i }
     ensures range { result < 2 ^ 40 }
 {
@@ -106,9 +100,8 @@ fn subscript_at(words: &Region, from: u64, i: u64) -> u64
 
 // Whether the i-th subscript lies within its bounds.
 fn is_within(words: &Region, at: u64, from: u64, i: u64) -> bool
-    requires within { at + 2 * i + 2 ≤ length words.now.words }
+    requires bounds { Reaches words.now.words at (2 * i + 2) }
     requires subscript { from + i < length words.now.words }
-    requires limit { length words.now.words < 2 ^ 24 }
     ensures { result ≡ (nat_le (lower words.now.words at i) (subscript words.now.words from i) && nat_le
         (subscript words.now.words from i) (upper words.now.words at i)) }
 {
@@ -118,9 +111,8 @@ fn is_within(words: &Region, at: u64, from: u64, i: u64) -> bool
 
 // Whether each of d subscripts lies within its bounds.
 fn lie_within(words: &Region, at: u64, from: u64, d: u64) -> bool
-    requires within { at + 2 * d ≤ length words.now.words }
+    requires bounds { Reaches words.now.words at (2 * d) }
     requires subscripts { from + d ≤ length words.now.words }
-    requires limit { length words.now.words < 2 ^ 24 }
     ensures { result ≡ are_within words.now.words at from d }
 {
     let mut so_far = true;
@@ -133,9 +125,8 @@ fn lie_within(words: &Region, at: u64, from: u64, d: u64) -> bool
 // The number of an element from the first on, and None where it passes every size of a stack.
 #[tactic(auto, using(crate::proofs::Extents::offset_grows))]
 fn offset_by(words: &Region, at: u64, from: u64, d: u64) -> Option<u64>
-    requires within { at + 2 * d ≤ length words.now.words }
+    requires bounds { Reaches words.now.words at (2 * d) }
     requires subscripts { from + d ≤ length words.now.words }
-    requires limit { length words.now.words < 2 ^ 24 }
     ensures { MatchOption result (2 ^ 24 ≤ offset words.now.words at from d)
         (λ n. (n ≡ offset words.now.words at from d) × (n < 2 ^ 24)) }
 {
@@ -154,8 +145,7 @@ fn offset_by(words: &Region, at: u64, from: u64, d: u64) -> Option<u64>
 fn find_element(words: &Region, d: u64, base: u64, from: u64) -> Result<u64, Halt>
     requires most { d ≤ 30 }
     requires base { base < length words.now.words }
-    requires subscripts { from + d ≤ length words.now.words }
-    requires limit { length words.now.words < 2 ^ 24 }
+    requires subscripts { Reaches words.now.words from d }
     ensures { result ≡ element_in words.now.words d base from }
 {
     let size = words.size();
@@ -182,8 +172,7 @@ fn find_element(words: &Region, d: u64, base: u64, from: u64) -> Result<u64, Hal
 fn compare_dimensions(words: &Region, d: u64, base: u64, from: u64) -> Result<u64, Halt>
     requires most { d ≤ 30 }
     requires base { base < 2 ^ 40 }
-    requires subscripts { from + d ≤ length words.now.words }
-    requires limit { length words.now.words < 2 ^ 24 }
+    requires subscripts { Reaches words.now.words from d }
     ensures { result ≡ element_by words.now.words d base from }
 {
     if base + 1 >= words.size() {

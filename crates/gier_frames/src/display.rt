@@ -2,6 +2,7 @@
 // Nothing here changes a word of the stack, nor asks when the display must be built anew.
 ghost use Rattle.std.specs.Prelude.{◌≡◌, ◌==◌, ◌+◌, ◌<◌, ◌≤◌, ◌^◌, ℕ, [], length, replicate, slice_index, slice_set};
 ghost use Rattle.std.specs.Prelude.{vec_capacity, IfOk};
+ghost use Rattle.gier_frames.specs.Reach.{IsBase};
 ghost use Rattle.gier_frames.specs.Display.{base_or_halt, with_levels_noted, Shows, KeepsLit};
 
 use crate::Halt;
@@ -77,11 +78,10 @@ impl Display {
     }
 
     /// Builds the display anew for the activation at a base.
-    #[tactic(auto, using(crate::proofs::DisplayBuild::begin, crate::proofs::DisplayBuild::step, crate::proofs::DisplayBuild::ends, crate::proofs::DisplayBuild::past))]
+    #[tactic(auto, using(crate::proofs::DisplayBuild::display_walk))]
     pub(crate) fn build(&mut self, words: &Region, base: u64)
         requires size { self.old.size ≡ length words.now.words }
-        requires limit { length words.now.words < 2 ^ 24 }
-        requires base { base < length words.now.words }
+        requires base { IsBase words.now.words base }
         ensures shows { Shows self.new words.now.words base }
         ensures size { self.new.size ≡ self.old.size }
     {
@@ -101,8 +101,7 @@ impl Display {
     #[inline]
     pub(crate) fn write(&mut self, words: &mut Region, base: u64, place: u64, word: u64)
         requires size { self.old.size ≡ length words.old.words }
-        requires limit { length words.old.words < 2 ^ 24 }
-        requires base { base < length words.old.words }
+        requires base { IsBase words.old.words base }
         requires place { place < length words.old.words }
         requires word { word < 2 ^ 40 }
         requires shown { Shows self.old words.old.words base }

@@ -1,5 +1,6 @@
 // The live activations, for the report of a stopped run. Nothing is changed here.
 ghost use Rattle.std.specs.Prelude.{◌≡◌, ◌+◌, ◌<◌, ◌≤◌, ◌^◌, suc, length, slice_get, slice_index};
+ghost use Rattle.gier_frames.specs.Reach.{IsBase, IsMarkedBase};
 ghost use Rattle.gier_frames.specs.Stop.{activations, activations_from, number_from, activation_at, shape_at, back_at};
 
 use crate::Frames;
@@ -56,8 +57,7 @@ impl Frames {
 // How many activations there are from a base on.
 #[tactic(auto, using(crate::proofs::WalkLength::number_on, crate::proofs::WalkLength::number_ends))]
 fn count_from(words: &Region, base: u64) -> u32
-    requires base { base < length words.now.words }
-    requires limit { length words.now.words < 2 ^ 24 }
+    requires { IsBase words.now.words base }
     ensures { result ≡ number_from (suc base) words.now.words base }
 {
     let mut base = base;
@@ -75,10 +75,8 @@ fn count_from(words: &Region, base: u64) -> u32
 // The activation so many before the one at a base.
 #[tactic(auto, using(crate::proofs::WalkLength::find_on, crate::proofs::WalkLength::find_ends))]
 fn find(words: &Region, marks: &Region, top: u64, base: u64, at: u32) -> Option<Activation>
-    requires base { base < length words.now.words }
-    requires marks { length marks.now.words ≡ length words.now.words }
+    requires base { IsMarkedBase words.now.words marks.now.words base }
     requires top { top < 2 ^ 24 }
-    requires limit { length words.now.words < 2 ^ 24 }
     ensures { result ≡ slice_get (activations_from (suc base) words.now.words marks.now.words top base) at }
 {
     let mut top = top;
@@ -97,10 +95,8 @@ fn find(words: &Region, marks: &Region, top: u64, base: u64, at: u32) -> Option<
 }
 
 fn one(words: &Region, marks: &Region, top: u64, base: u64) -> Activation
-    requires base { base < length words.now.words }
-    requires marks { length marks.now.words ≡ length words.now.words }
+    requires base { IsMarkedBase words.now.words marks.now.words base }
     requires top { top < 2 ^ 24 }
-    requires limit { length words.now.words < 2 ^ 24 }
     ensures { result ≡ activation_at words.now.words marks.now.words top base }
 {
     Activation {
@@ -122,9 +118,7 @@ fn word_or_zero(words: &Region, place: u64) -> u64
 }
 
 fn shape_of(words: &Region, marks: &Region, base: u64) -> Shape
-    requires base { base < length words.now.words }
-    requires marks { length marks.now.words ≡ length words.now.words }
-    requires limit { length words.now.words < 2 ^ 24 }
+    requires { IsMarkedBase words.now.words marks.now.words base }
     ensures { result ≡ shape_at words.now.words marks.now.words base }
 {
     if words.get(base) >= base {
@@ -140,9 +134,7 @@ fn shape_of(words: &Region, marks: &Region, base: u64) -> Shape
 }
 
 fn back_of(words: &Region, marks: &Region, base: u64) -> u32
-    requires base { base < length words.now.words }
-    requires marks { length marks.now.words ≡ length words.now.words }
-    requires limit { length words.now.words < 2 ^ 24 }
+    requires { IsMarkedBase words.now.words marks.now.words base }
     ensures { result ≡ back_at words.now.words marks.now.words base }
 {
     if words.get(base) >= base || marks.get(base) == 0 {

@@ -1,15 +1,14 @@
 // Reads and writes of many words of a region, which know nothing of activations.
 ghost use Rattle.std.specs.Prelude.{◌≡◌, ◌+◌, ◌*◌, ◌<◌, ◌≤◌, ◌^◌, ℕ, List, length, replicate, slice_index, vec_capacity};
-ghost use Rattle.gier_frames.specs.Writes.{with_zeros, words_from, with_values, with_two, with_header};
+ghost use Rattle.gier_frames.specs.Reach.{Reaches};
+ghost use Rattle.gier_frames.specs.Writes.{with_zeros, words_from, with_values, with_two, with_header, Rewrites};
 
 use gier_region::Region;
 
 // Makes so many words from a place on 0.
 pub(crate) fn zero(words: &mut Region, at: u64, count: u64)
-    requires within { at + count ≤ length words.old.words }
-    requires limit { length words.old.words < 2 ^ 24 }
-    ensures words { words.new.words ≡ with_zeros words.old.words at count }
-    ensures size { length words.new.words ≡ length words.old.words }
+    requires { Reaches words.old.words at count }
+    ensures { Rewrites words.old.words (with_zeros words.old.words at count) words.new.words }
 {
     for k in 0..count {
         words.set(at + k, 0);
@@ -30,12 +29,10 @@ pub(crate) fn reset(words: &mut Region)
 
 // Two words side by side.
 pub(crate) fn write_two(words: &mut Region, at: u64, first: u64, second: u64)
-    requires room { at + 2 ≤ length words.old.words }
-    requires limit { length words.old.words < 2 ^ 24 }
+    requires room { Reaches words.old.words at 2 }
     requires first { first < 2 ^ 40 }
     requires second { second < 2 ^ 40 }
-    ensures words { words.new.words ≡ with_two words.old.words at first second }
-    ensures size { length words.new.words ≡ length words.old.words }
+    ensures { Rewrites words.old.words (with_two words.old.words at first second) words.new.words }
 {
     words.set(at, first);
     words.set(at + 1, second);
@@ -43,13 +40,11 @@ pub(crate) fn write_two(words: &mut Region, at: u64, first: u64, second: u64)
 
 // The three words with which each activation begins.
 pub(crate) fn write_header(words: &mut Region, at: u64, old: u64, head: u64, end: u64)
-    requires room { at + 3 ≤ length words.old.words }
-    requires limit { length words.old.words < 2 ^ 24 }
+    requires room { Reaches words.old.words at 3 }
     requires old { old < 2 ^ 40 }
     requires head { head < 2 ^ 40 }
     requires end { end < 2 ^ 40 }
-    ensures words { words.new.words ≡ with_header words.old.words at old head end }
-    ensures size { length words.new.words ≡ length words.old.words }
+    ensures { Rewrites words.old.words (with_header words.old.words at old head end) words.new.words }
 {
     write_two(words, at, old, head);
     words.set(at + 2, end);
@@ -58,12 +53,10 @@ pub(crate) fn write_header(words: &mut Region, at: u64, old: u64, head: u64, end
 // A new activation: its words 0, and its header.
 pub(crate) fn make_activation(words: &mut Region, at: u64, room: u64, old: u64, head: u64)
     requires least { 3 ≤ room }
-    requires within { at + room ≤ length words.old.words }
-    requires limit { length words.old.words < 2 ^ 24 }
+    requires within { Reaches words.old.words at room }
     requires old { old < 2 ^ 40 }
     requires head { head < 2 ^ 40 }
-    ensures words { words.new.words ≡ with_header (with_zeros words.old.words at room) at old head (at + room) }
-    ensures size { length words.new.words ≡ length words.old.words }
+    ensures { Rewrites words.old.words (with_header (with_zeros words.old.words at room) at old head (at + room)) words.new.words }
 {
     zero(words, at, room);
     write_header(words, at, old, head, at + room);
@@ -87,11 +80,9 @@ pub(crate) fn save(words: &Region, from: u64, count: u64, saved: &mut Vec<u64>)
 
 // Writes the values from a place on.
 pub(crate) fn pour(words: &mut Region, at: u64, values: &Vec<u64>)
-    requires within { at + length values.now.items ≤ length words.old.words }
-    requires limit { length words.old.words < 2 ^ 24 }
+    requires within { Reaches words.old.words at (length values.now.items) }
     requires small { (k : ℕ) → slice_index values.now.items k < 2 ^ 40 }
-    ensures words { words.new.words ≡ with_values words.old.words at values.now.items (length values.now.items) }
-    ensures size { length words.new.words ≡ length words.old.words }
+    ensures { Rewrites words.old.words (with_values words.old.words at values.now.items (length values.now.items)) words.new.words }
 {
     for (k, value) in values.iter().enumerate() {
         words.set(at + k as u64, *value);
