@@ -150,3 +150,6 @@ base_only code input m s level go = ap (λ f. in_level code (length s.words) (re
   where
     same : (b : ℕ) → b ≡ b + 0
     same b = omega arith
+
+-- what is known of the place of a cell
+pub ruleset cell_answers = (cell_found, cell_refused, cell_small)

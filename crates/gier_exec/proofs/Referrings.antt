@@ -97,3 +97,6 @@ pub track_is : (tracks : List (List ℕ)) (t : ℕ) (words : List ℕ) → slice
 track_is [] t words e = absurd cc
 track_is (x ∷ tracks) zero words e = cc
 track_is (x ∷ tracks) (suc t) words e = track_is tracks t words e
+
+-- what is known of a word that is read, or of none
+pub ruleset word_answers = (refers_none, word_read, word_past)

@@ -45,7 +45,7 @@ pub(crate) fn read(frames: &Frames, place: u64) -> Result<u64, Stop>
 
 /// The place at an address in the visible activation of a level.
 #[inline(always)]
-#[tactic(auto, using(crate::proofs::FrameReads::cell_found, crate::proofs::FrameReads::cell_refused, crate::proofs::FrameReads::cell_small))]
+#[tactic(auto, using(crate::proofs::FrameReads::cell_answers))]
 pub(crate) fn place_of(frames: &Frames, level: u8, address: u32) -> Result<u64, Stop>
     ensures small { IfOk result (λ place. place < 2 ^ 40) }
     ensures row { (code input : List ℕ) (m : Registers) (go : ℕ → Row) → frames.now.entered ≡ true

@@ -56,7 +56,7 @@ pub(crate) fn read_word<D: Drum>(
 
 /// The same, where the address may be none of the object.
 #[inline(never)]
-#[tactic(auto, using(crate::proofs::Referrings::refers_none, crate::proofs::Referrings::word_read, crate::proofs::Referrings::word_past))]
+#[tactic(auto, using(crate::proofs::Referrings::word_answers))]
 pub(crate) fn fetch<D: Drum>(
     object: &Object,
     pager: &mut Pager<D>,
