@@ -1,5 +1,6 @@
 pub mod Registers
 pub mod Reading
+pub mod Obedience
 pub mod Finding
 pub mod Rows
 pub mod Following

@@ -1,5 +1,6 @@
 -- What an order that reads words of the object does to the drum, to the places, and to the two counts of references.
-use Rattle.std.specs.Prelude.{◌≡◌, ◌+◌, ◌/◌, ◌≤◌, ◌^◌, ℕ, List, Option}
+use Rattle.std.specs.Prelude.{◌≡◌, ◌+◌, ◌/◌, ◌≤◌, ◌^◌, ℕ, List, Option, Result, Err}
+use Rattle.gier_word.specs.Cause.{HasRisen}
 use Rattle.gier_drum.specs.declared.drum.Entry.{Entry}
 use Rattle.gier_order.specs.Counts.{Counts, references_taken}
 use Rattle.gier_order.specs.declared.object.Object.{Object}
@@ -46,6 +47,11 @@ pub record SamePager {D : Type 0} (old new : Pager D) : Type 0 where
   pub places : new.places.ghost_name ≡ old.places.ghost_name
   pub recent : new.recent.ghost_name ≡ old.recent.ghost_name
   pub trace : new.trace.ghost_name ≡ old.trace.ghost_name
+
+-- a pager goes on with what it borrowed, and a failure of the drum was counted
+pub record PreservesPager {D A E : Type 0} (faults : D → ℕ) (failure : E) (old new : Pager D) (result : Result A E) : Type 0 where
+  pub same : SamePager old new
+  pub failed : result ≡ Err failure → HasRisen (faults old.drum.now) (faults new.drum.now)
 
 -- some reads were appended to the journal, where it is told
 abbrev pub ReadsMore : Option (List Entry) → Option (List Entry) → Type 0

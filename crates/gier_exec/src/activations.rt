@@ -6,12 +6,13 @@ ghost use Rattle.gier_order.specs.declared.operation.Operation.TheVariants.{Retu
 ghost use Rattle.gier_order.specs.Flat.Row.{Row, needs};
 ghost use Rattle.gier_order.specs.Flat.Rows.{effect, leaves, local as local_row};
 ghost use Rattle.gier_names.specs.Evaluations.{number_of};
+ghost use Rattle.gier_exec.specs.Obedience.{Obeys};
 ghost use Rattle.gier_exec.specs.Rows.{regs_of};
 ghost use Rattle.gier_exec.specs.Following.{RefinesJump, RefinesValue, can_return};
 ghost use Rattle.gier_frames.specs.State.{IsKept};
 ghost use Rattle.gier_exec.specs.Finding.{IsFound};
 ghost use Rattle.gier_exec.specs.Beginning.{evaluation_row};
-ghost use Rattle.gier_exec.specs.Registers.{Registers, PreservesPlace, Progresses};
+ghost use Rattle.gier_exec.specs.Registers.{Registers, PreservesPlace};
 ghost use Rattle.gier_exec.specs.Calling.{entry_row, IsCallable};
 ghost use Rattle.gier_order.specs.Codes.{IsOrder};
 ghost use Rattle.gier_exec.specs.declared.stop.Stop.TheVariants.{Odd};
@@ -73,10 +74,7 @@ pub(crate) fn enter_procedure(
         → RefinesJump (entry_row code (length frames.old.words) (regs_of m.old frames.old input) entry)
         (regs_of m.new frames.new input)
         result }
-    ensures keeps { PreservesPlace m.old m.new }
-    ensures goes { IfOk result (λ at. Progresses words m.old at m.new) }
-    ensures size { length frames.new.words ≡ length frames.old.words }
-    ensures odd { result ≡ Err Odd → (m.new ≡ m.old) × (frames.new ≡ frames.old) }
+    ensures obeys { Obeys Odd words m.old m.new frames.old frames.new result }
 {
     let Ok(from) = u32::try_from(entry.from) else {
         return Err(Stop::Odd);
@@ -125,10 +123,7 @@ pub(crate) fn enter_evaluation(
         → RefinesJump (evaluation_row code (length frames.old.words) (regs_of m.old frames.old input) found)
         (regs_of m.new frames.new input)
         result }
-    ensures keeps { PreservesPlace m.old m.new }
-    ensures goes { IfOk result (λ at. Progresses words m.old at m.new) }
-    ensures size { length frames.new.words ≡ length frames.old.words }
-    ensures odd { result ≡ Err Odd → (m.new ≡ m.old) × (frames.new ≡ frames.old) }
+    ensures obeys { Obeys Odd words m.old m.new frames.old frames.new result }
 {
     if m.steps_left() == 0 {
         return if can_enter(frames, found.thunk.address, found.outer, 0, 0) {
@@ -174,10 +169,7 @@ pub(crate) fn leave_procedure(
     ensures row { (code input : List ℕ) (l : ℕ) → frames.old.entered ≡ true → length code ≡ words
         → RefinesJump (effect code (length frames.old.words) (regs_of m.old frames.old input) Return l kind)
         (regs_of m.new frames.new input) result }
-    ensures keeps { PreservesPlace m.old m.new }
-    ensures goes { IfOk result (λ at. Progresses words m.old at m.new) }
-    ensures size { length frames.new.words ≡ length frames.old.words }
-    ensures odd { result ≡ Err Odd → (m.new ≡ m.old) × (frames.new ≡ frames.old) }
+    ensures obeys { Obeys Odd words m.old m.new frames.old frames.new result }
 {
     match kind {
         0 => {
@@ -202,10 +194,7 @@ pub(crate) fn leave_evaluation(
         → RefinesJump (effect code (length frames.old.words) (regs_of m.old frames.old input) Back l a)
         (regs_of m.new frames.new input)
         result }
-    ensures keeps { PreservesPlace m.old m.new }
-    ensures goes { IfOk result (λ at. Progresses words m.old at m.new) }
-    ensures size { length frames.new.words ≡ length frames.old.words }
-    ensures odd { result ≡ Err Odd → (m.new ≡ m.old) × (frames.new ≡ frames.old) }
+    ensures obeys { Obeys Odd words m.old m.new frames.old frames.new result }
 {
     match wanted_now(frames) {
         Ok(_) => {
@@ -223,10 +212,7 @@ pub(crate) fn leave_variable(m: &mut Machine, frames: &mut Frames, words: u32) -
         → RefinesJump (effect code (length frames.old.words) (regs_of m.old frames.old input) Give l a)
         (regs_of m.new frames.new input)
         result }
-    ensures keeps { PreservesPlace m.old m.new }
-    ensures goes { IfOk result (λ at. Progresses words m.old at m.new) }
-    ensures size { length frames.new.words ≡ length frames.old.words }
-    ensures odd { result ≡ Err Odd → (m.new ≡ m.old) × (frames.new ≡ frames.old) }
+    ensures obeys { Obeys Odd words m.old m.new frames.old frames.new result }
 {
     let next = match return_to(m, frames, words) {
         Ok(next) => next,
@@ -265,10 +251,7 @@ fn leave(m: &mut Machine, frames: &mut Frames, value: u64, words: u32) -> Result
         → RefinesJump (leaves code (length frames.old.words) (regs_of m.old frames.old input) value)
         (regs_of m.new frames.new input)
         result }
-    ensures keeps { PreservesPlace m.old m.new }
-    ensures goes { IfOk result (λ at. Progresses words m.old at m.new) }
-    ensures size { length frames.new.words ≡ length frames.old.words }
-    ensures odd { result ≡ Err Odd → (m.new ≡ m.old) × (frames.new ≡ frames.old) }
+    ensures obeys { Obeys Odd words m.old m.new frames.old frames.new result }
 {
     let next = match return_to(m, frames, words) {
         Ok(next) => next,

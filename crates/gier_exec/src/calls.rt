@@ -7,14 +7,13 @@ ghost use Rattle.gier_order.specs.Flat.Rows.{effect, word_at, reads_order, reads
 ghost use Rattle.gier_order.specs.Flat.Kinds.{Handed, Bare, Kinded, Neither, formals_handed};
 ghost use Rattle.gier_order.specs.declared.order.Order.{Order};
 ghost use Rattle.gier_order.specs.declared.operation.Operation.TheVariants.{Call, Formal, CallF};
+ghost use Rattle.gier_exec.specs.Obedience.{Obeys};
 ghost use Rattle.gier_exec.specs.Rows.{regs_of, code_in};
 ghost use Rattle.gier_exec.specs.Searching.{RefinesSearch, RefinesReading};
 ghost use Rattle.gier_exec.specs.Calling.{entry_row, IsHead, IsCallable, formals_in};
 ghost use Rattle.gier_exec.specs.Numbers.{is_call};
-ghost use Rattle.gier_word.specs.Cause.{HasRisen};
 ghost use Rattle.gier_order.specs.Codes.{IsOrder};
-ghost use Rattle.gier_exec.specs.Registers.{PreservesPlace, Progresses};
-ghost use Rattle.gier_exec.specs.Reading.{CanRead, Reads, SamePager, pager_view};
+ghost use Rattle.gier_exec.specs.Reading.{PreservesPager, CanRead, Reads, pager_view};
 ghost use Rattle.gier_exec.specs.declared.stop.Miss.TheVariants.{Drum as DrumFailed, Stop as Stopped};
 ghost use Rattle.gier_exec.specs.declared.stop.Stop.TheVariants.{Odd};
 
@@ -55,14 +54,10 @@ pub(crate) fn call<D: Drum>(
         (pager_view D.room D.tracks D.journal D.faults pager.new)
         (effect (code_in tracks object.now) (length frames.old.words) (regs_of m.old frames.old input) operation order.level
         order.address) (regs_of m.new frames.new input) result }
-    ensures keeps { PreservesPlace m.old m.new }
-    ensures goes { IfOk result (λ next. Progresses object.now.words m.old next m.new) }
-    ensures size { length frames.new.words ≡ length frames.old.words }
-    ensures same_references { SamePager pager.old pager.new }
+    ensures obeys { Obeys (Stopped Odd) object.now.words m.old m.new frames.old frames.new result }
     ensures reads { Reads 3 object.now (pager_view D.room D.tracks D.journal D.faults pager.old)
         (pager_view D.room D.tracks D.journal D.faults pager.new) }
-    ensures failed { result ≡ Err DrumFailed → HasRisen (D.faults pager.old.drum.now) (D.faults pager.new.drum.now) }
-    ensures odd { result ≡ Err (Stopped Odd) → (m.new ≡ m.old) × (frames.new ≡ frames.old) }
+    ensures pager { PreservesPager D.faults DrumFailed pager.old pager.new result }
 {
     let entry = match find(m, frames, object, pager, operation, order) {
         Ok(entry) => entry,
@@ -95,10 +90,9 @@ fn find<D: Drum>(
         (entry_row (code_in tracks object.now) (length frames.now.words) (regs_of m.now frames.now input)) result }
     ensures found { IfOk result (λ entry. entry.next < object.now.words) }
     ensures callable { IfOk result IsCallable }
-    ensures same_references { SamePager pager.old pager.new }
     ensures reads { Reads 3 object.now (pager_view D.room D.tracks D.journal D.faults pager.old)
         (pager_view D.room D.tracks D.journal D.faults pager.new) }
-    ensures failed { result ≡ Err DrumFailed → HasRisen (D.faults pager.old.drum.now) (D.faults pager.new.drum.now) }
+    ensures pager { PreservesPager D.faults DrumFailed pager.old pager.new result }
 {
     match operation {
         Operation::Call => find_procedure(m, frames, object, pager, order),
@@ -127,10 +121,9 @@ fn find_procedure<D: Drum>(
         (entry_row (code_in tracks object.now) (length frames.now.words) (regs_of m.now frames.now input)) result }
     ensures found { IfOk result (λ entry. entry.next < object.now.words) }
     ensures callable { IfOk result IsCallable }
-    ensures same_references { SamePager pager.old pager.new }
     ensures reads { Reads 3 object.now (pager_view D.room D.tracks D.journal D.faults pager.old)
         (pager_view D.room D.tracks D.journal D.faults pager.new) }
-    ensures failed { result ≡ Err DrumFailed → HasRisen (D.faults pager.old.drum.now) (D.faults pager.new.drum.now) }
+    ensures pager { PreservesPager D.faults DrumFailed pager.old pager.new result }
 {
     let mut entry = match find_head(object, pager, u64::from(order.address)) {
         Ok(entry) => entry,
@@ -167,10 +160,9 @@ fn find_head<D: Drum>(object: &Object, pager: &mut Pager<D>, address: u64) -> Re
     ensures head { IfOk result (λ entry. IsHead entry address) }
     ensures found { IfOk result (λ entry. entry.next < object.now.words) }
     ensures few { IfOk result (λ entry. entry.count ≤ 511) }
-    ensures same_references { SamePager pager.old pager.new }
     ensures reads { Reads 2 object.now (pager_view D.room D.tracks D.journal D.faults pager.old)
         (pager_view D.room D.tracks D.journal D.faults pager.new) }
-    ensures failed { result ≡ Err DrumFailed → HasRisen (D.faults pager.old.drum.now) (D.faults pager.new.drum.now) }
+    ensures pager { PreservesPager D.faults DrumFailed pager.old pager.new result }
 {
     let head = match fetch_only(object, pager, address, Operation::Proc) {
         Ok(head) => head,
@@ -199,10 +191,9 @@ fn find_entry<D: Drum>(
     ensures room { IfOk result (λ entry. entry.room ≡ head.address) }
     ensures found { IfOk result (λ entry. entry.next < object.now.words) }
     ensures few { IfOk result (λ entry. entry.count ≤ most) }
-    ensures same_references { SamePager pager.old pager.new }
     ensures reads { Reads 1 object.now (pager_view D.room D.tracks D.journal D.faults pager.old)
         (pager_view D.room D.tracks D.journal D.faults pager.new) }
-    ensures failed { result ≡ Err DrumFailed → HasRisen (D.faults pager.old.drum.now) (D.faults pager.new.drum.now) }
+    ensures pager { PreservesPager D.faults DrumFailed pager.old pager.new result }
 {
     let count = match fetch(object, pager, address + 1) {
         Ok(count) => count,
@@ -242,10 +233,9 @@ fn find_formal<D: Drum>(
         (entry_row (code_in tracks object.now) (length frames.now.words) (regs_of m.now frames.now input)) result }
     ensures found { IfOk result (λ entry. entry.next < object.now.words) }
     ensures callable { IfOk result IsCallable }
-    ensures same_references { SamePager pager.old pager.new }
     ensures reads { Reads 3 object.now (pager_view D.room D.tracks D.journal D.faults pager.old)
         (pager_view D.room D.tracks D.journal D.faults pager.new) }
-    ensures failed { result ≡ Err DrumFailed → HasRisen (D.faults pager.old.drum.now) (D.faults pager.new.drum.now) }
+    ensures pager { PreservesPager D.faults DrumFailed pager.old pager.new result }
 {
     let place = match place_of(frames, order.level, order.address) {
         Ok(place) => place,
@@ -282,10 +272,9 @@ fn find_bare<D: Drum>(object: &Object, pager: &mut Pager<D>, address: u64) -> Re
     ensures from { IfOk result (λ entry. entry.from ≡ 0) }
     ensures found { IfOk result (λ entry. entry.next < object.now.words) }
     ensures few { IfOk result (λ entry. entry.count ≤ 511) }
-    ensures same_references { SamePager pager.old pager.new }
     ensures reads { Reads 2 object.now (pager_view D.room D.tracks D.journal D.faults pager.old)
         (pager_view D.room D.tracks D.journal D.faults pager.new) }
-    ensures failed { result ≡ Err DrumFailed → HasRisen (D.faults pager.old.drum.now) (D.faults pager.new.drum.now) }
+    ensures pager { PreservesPager D.faults DrumFailed pager.old pager.new result }
 {
     let head = match fetch_order(object, pager, address) {
         Ok(head) => head,
@@ -332,10 +321,9 @@ pub(crate) fn fetch_kinds<D: Drum>(
     ensures order { IfOk result IsOrder }
     ensures some { IfOk result (λ order. 1 ≤ order.level) }
     ensures few { IfOk result (λ order. order.level ≤ 80) }
-    ensures same_references { SamePager pager.old pager.new }
     ensures reads { Reads 1 object.now (pager_view D.room D.tracks D.journal D.faults pager.old)
         (pager_view D.room D.tracks D.journal D.faults pager.new) }
-    ensures failed { result ≡ Err DrumFailed → HasRisen (D.faults pager.old.drum.now) (D.faults pager.new.drum.now) }
+    ensures pager { PreservesPager D.faults DrumFailed pager.old pager.new result }
 {
     let head = match fetch_order(object, pager, address) {
         Ok(head) => head,
@@ -368,10 +356,9 @@ fn find_compared<D: Drum>(
         (entry_row (code_in tracks object.now) (length frames.now.words) (regs_of m.now frames.now input)) result }
     ensures found { IfOk result (λ entry. entry.next < object.now.words) }
     ensures callable { IfOk result IsCallable }
-    ensures same_references { SamePager pager.old pager.new }
     ensures reads { Reads 3 object.now (pager_view D.room D.tracks D.journal D.faults pager.old)
         (pager_view D.room D.tracks D.journal D.faults pager.new) }
-    ensures failed { result ≡ Err DrumFailed → HasRisen (D.faults pager.old.drum.now) (D.faults pager.new.drum.now) }
+    ensures pager { PreservesPager D.faults DrumFailed pager.old pager.new result }
 {
     let place = match place_of(frames, order.level, order.address) {
         Ok(place) => place,
@@ -409,10 +396,9 @@ fn find_kinded<D: Drum>(object: &Object, pager: &mut Pager<D>, address: u64) -> 
     ensures found { IfOk result (λ entry. entry.next < object.now.words) }
     ensures few { IfOk result (λ entry. entry.count ≤ 511) }
     ensures some { IfOk result (λ entry. 2 ≤ entry.count) }
-    ensures same_references { SamePager pager.old pager.new }
     ensures reads { Reads 3 object.now (pager_view D.room D.tracks D.journal D.faults pager.old)
         (pager_view D.room D.tracks D.journal D.faults pager.new) }
-    ensures failed { result ≡ Err DrumFailed → HasRisen (D.faults pager.old.drum.now) (D.faults pager.new.drum.now) }
+    ensures pager { PreservesPager D.faults DrumFailed pager.old pager.new result }
 {
     let kinds = match fetch_kinds(object, pager, address) {
         Ok(kinds) => kinds,

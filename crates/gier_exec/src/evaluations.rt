@@ -6,16 +6,16 @@ ghost use Rattle.gier_names.specs.declared.wanted.Wanted.TheVariants.{Label};
 ghost use Rattle.gier_names.specs.Evaluations.{number_of as wanted_number};
 ghost use Rattle.gier_order.specs.Flat.Row.{Regs, reads as reads_word};
 ghost use Rattle.gier_order.specs.Flat.Rows.{effect, cell_pair, evaluates, switches};
+ghost use Rattle.gier_exec.specs.Obedience.{Obeys};
 ghost use Rattle.gier_exec.specs.Registers.{Registers};
 ghost use Rattle.gier_exec.specs.Rows.{regs_of, code_in};
 ghost use Rattle.gier_exec.specs.Numbers.{is_evaluation, is_choice};
 ghost use Rattle.gier_exec.specs.Following.{RefinesJump, RefinesValue};
 ghost use Rattle.gier_exec.specs.Searching.{RefinesSearch, RefinesReading};
 ghost use Rattle.gier_exec.specs.Beginning.{evaluation_row, choice_row};
-ghost use Rattle.gier_word.specs.Cause.{HasRisen};
 ghost use Rattle.gier_order.specs.Codes.{IsOrder};
 ghost use Rattle.gier_exec.specs.Registers.{PreservesPlace, Progresses};
-ghost use Rattle.gier_exec.specs.Reading.{CanRead, Reads, SamePager, pager_view};
+ghost use Rattle.gier_exec.specs.Reading.{PreservesPager, CanRead, Reads, pager_view};
 ghost use Rattle.gier_exec.specs.Finding.{IsFound};
 ghost use Rattle.gier_exec.specs.declared.stop.Miss.TheVariants.{Drum as DrumFailed, Stop as Stopped};
 ghost use Rattle.gier_exec.specs.declared.stop.Stop.TheVariants.{Odd};
@@ -55,14 +55,10 @@ pub(crate) fn evaluate<D: Drum>(
         (pager_view D.room D.tracks D.journal D.faults pager.new)
         (effect (code_in tracks object.now) (length frames.old.words) (regs_of m.old frames.old input) operation order.level
         order.address) (regs_of m.new frames.new input) result }
-    ensures keeps { PreservesPlace m.old m.new }
-    ensures goes { IfOk result (λ next. Progresses object.now.words m.old next m.new) }
-    ensures size { length frames.new.words ≡ length frames.old.words }
-    ensures same_references { SamePager pager.old pager.new }
+    ensures obeys { Obeys (Stopped Odd) object.now.words m.old m.new frames.old frames.new result }
     ensures reads { Reads 1 object.now (pager_view D.room D.tracks D.journal D.faults pager.old)
         (pager_view D.room D.tracks D.journal D.faults pager.new) }
-    ensures failed { result ≡ Err DrumFailed → HasRisen (D.faults pager.old.drum.now) (D.faults pager.new.drum.now) }
-    ensures odd { result ≡ Err (Stopped Odd) → (m.new ≡ m.old) × (frames.new ≡ frames.old) }
+    ensures pager { PreservesPager D.faults DrumFailed pager.old pager.new result }
 {
     let found = match find_formal(frames, object, pager, operation, order) {
         Ok(found) => found,
@@ -94,14 +90,10 @@ pub(crate) fn choose<D: Drum>(
         (pager_view D.room D.tracks D.journal D.faults pager.new)
         (effect (code_in tracks object.now) (length frames.old.words) (regs_of m.old frames.old input) operation order.level
         order.address) (regs_of m.new frames.new input) result }
-    ensures keeps { PreservesPlace m.old m.new }
-    ensures goes { IfOk result (λ next. Progresses object.now.words m.old next m.new) }
-    ensures size { length frames.new.words ≡ length frames.old.words }
-    ensures same_references { SamePager pager.old pager.new }
+    ensures obeys { Obeys (Stopped Odd) object.now.words m.old m.new frames.old frames.new result }
     ensures reads { Reads 3 object.now (pager_view D.room D.tracks D.journal D.faults pager.old)
         (pager_view D.room D.tracks D.journal D.faults pager.new) }
-    ensures failed { result ≡ Err DrumFailed → HasRisen (D.faults pager.old.drum.now) (D.faults pager.new.drum.now) }
-    ensures odd { result ≡ Err (Stopped Odd) → (m.new ≡ m.old) × (frames.new ≡ frames.old) }
+    ensures pager { PreservesPager D.faults DrumFailed pager.old pager.new result }
 {
     let found = match find_element(m, frames, object, pager, operation, order) {
         Ok(found) => found,
@@ -127,10 +119,7 @@ fn enter_chosen(
         → RefinesJump (choice_row code (length frames.old.words) (regs_of m.old frames.old input) chosen)
         (regs_of m.new frames.new input)
         result }
-    ensures keeps { PreservesPlace m.old m.new }
-    ensures goes { IfOk result (λ at. Progresses words m.old at m.new) }
-    ensures size { length frames.new.words ≡ length frames.old.words }
-    ensures odd { result ≡ Err Odd → (m.new ≡ m.old) × (frames.new ≡ frames.old) }
+    ensures obeys { Obeys Odd words m.old m.new frames.old frames.new result }
 {
     match chosen {
         Some(found) => enter_evaluation(m, frames, found, words),
@@ -174,10 +163,9 @@ fn find_formal<D: Drum>(
         order.address) (regs_of m frames.now input)
         (λ found. evaluation_row (code_in tracks object.now) (length frames.now.words) (regs_of m frames.now input) found) result }
     ensures found { IfOk result (λ found. IsFound object.now.words found) }
-    ensures same_references { SamePager pager.old pager.new }
     ensures reads { Reads 1 object.now (pager_view D.room D.tracks D.journal D.faults pager.old)
         (pager_view D.room D.tracks D.journal D.faults pager.new) }
-    ensures failed { result ≡ Err DrumFailed → HasRisen (D.faults pager.old.drum.now) (D.faults pager.new.drum.now) }
+    ensures pager { PreservesPager D.faults DrumFailed pager.old pager.new result }
 {
     let wanted = match wanted_by(frames, operation) {
         Ok(wanted) => wanted,
@@ -236,10 +224,9 @@ fn find_thunk<D: Drum>(
         (evaluates (code_in tracks object.now) size regs address outer (wanted_number wanted)) regs
         (λ found. evaluation_row (code_in tracks object.now) size regs found) result }
     ensures found { IfOk result (λ found. IsFound object.now.words found) }
-    ensures same_references { SamePager pager.old pager.new }
     ensures reads { Reads 1 object.now (pager_view D.room D.tracks D.journal D.faults pager.old)
         (pager_view D.room D.tracks D.journal D.faults pager.new) }
-    ensures failed { result ≡ Err DrumFailed → HasRisen (D.faults pager.old.drum.now) (D.faults pager.new.drum.now) }
+    ensures pager { PreservesPager D.faults DrumFailed pager.old pager.new result }
 {
     let thunk = match fetch_only(object, pager, address, Operation::Thunk) {
         Ok(thunk) => thunk,
@@ -278,10 +265,9 @@ fn find_element<D: Drum>(
         (λ chosen. choice_row (code_in tracks object.now) (length frames.now.words) (regs_of m.now frames.now input) chosen)
         result }
     ensures found { IfOk result (λ chosen. IfSome chosen (λ found. IsFound object.now.words found)) }
-    ensures same_references { SamePager pager.old pager.new }
     ensures reads { Reads 3 object.now (pager_view D.room D.tracks D.journal D.faults pager.old)
         (pager_view D.room D.tracks D.journal D.faults pager.new) }
-    ensures failed { result ≡ Err DrumFailed → HasRisen (D.faults pager.old.drum.now) (D.faults pager.new.drum.now) }
+    ensures pager { PreservesPager D.faults DrumFailed pager.old pager.new result }
 {
     let (table, outer) = match find_table(frames, operation, order) {
         Ok(pair) => pair,
@@ -333,10 +319,9 @@ fn find_label<D: Drum>(
         (λ address. evaluates (code_in tracks object.now) size regs address outer 3)) regs
         (λ found. evaluation_row (code_in tracks object.now) size regs found) result }
     ensures found { IfOk result (λ found. IsFound object.now.words found) }
-    ensures same_references { SamePager pager.old pager.new }
     ensures reads { Reads 2 object.now (pager_view D.room D.tracks D.journal D.faults pager.old)
         (pager_view D.room D.tracks D.journal D.faults pager.new) }
-    ensures failed { result ≡ Err DrumFailed → HasRisen (D.faults pager.old.drum.now) (D.faults pager.new.drum.now) }
+    ensures pager { PreservesPager D.faults DrumFailed pager.old pager.new result }
 {
     let address = match fetch(object, pager, entry) {
         Ok(address) => address,

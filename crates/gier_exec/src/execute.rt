@@ -7,6 +7,7 @@ ghost use Rattle.gier_order.specs.Table.{operation_at};
 ghost use Rattle.gier_order.specs.declared.operation.Operation.TheVariants.{Long, Lib};
 ghost use Rattle.gier_order.specs.Flat.Row.{needs};
 ghost use Rattle.gier_order.specs.Flat.Rows.{effect, does};
+ghost use Rattle.gier_exec.specs.Obedience.{Obeys};
 ghost use Rattle.gier_exec.specs.Rows.{regs_of, code_in};
 ghost use Rattle.gier_exec.specs.Following.{RefinesJump};
 ghost use Rattle.gier_exec.specs.References.{Refers, RefinesOrder};
@@ -18,7 +19,7 @@ ghost use Rattle.gier_word.specs.Cause.{HasRisen};
 ghost use Rattle.gier_library.specs.DataView.{source_of, has_ended, stand_of};
 ghost use Rattle.gier_order.specs.Codes.{IsOrder};
 ghost use Rattle.gier_exec.specs.Registers.{PreservesPlace, Progresses};
-ghost use Rattle.gier_exec.specs.Reading.{CanRead, Reads, SamePager, pager_view};
+ghost use Rattle.gier_exec.specs.Reading.{PreservesPager, CanRead, Reads, pager_view};
 ghost use Rattle.gier_exec.specs.declared.stop.Miss.TheVariants.{Drum as DrumFailed, Stop as Stopped};
 ghost use Rattle.gier_exec.specs.declared.stop.Quit.TheVariants.{Miss as Missed, Read, Write};
 ghost use Rattle.gier_exec.specs.declared.stop.Stop.TheVariants.{Odd};
@@ -69,7 +70,6 @@ pub(crate) fn execute<D: Drum, S: Source, K: Sink>(
     ensures keeps { PreservesPlace m.old m.new }
     ensures goes { IfOk result (λ next. Progresses object.now.words m.old next m.new) }
     ensures size { length frames.new.words ≡ length frames.old.words }
-    ensures same_references { SamePager pager.old pager.new }
     ensures reads { Reads (2 * object.now.words + 1) object.now
         (pager_view D.room D.tracks D.journal D.faults pager.old)
         (pager_view D.room D.tracks D.journal D.faults pager.new) }
@@ -78,7 +78,7 @@ pub(crate) fn execute<D: Drum, S: Source, K: Sink>(
     ensures source_failed { result ≡ Err Read → HasRisen (S.faults (source_of input.old)) (S.faults (source_of input.new)) }
     ensures sink_later { K.faults out.old ≤ K.faults out.new }
     ensures sink_failed { result ≡ Err Write → HasRisen (K.faults out.old) (K.faults out.new) }
-    ensures failed { result ≡ Err (Missed DrumFailed) → HasRisen (D.faults pager.old.drum.now) (D.faults pager.new.drum.now) }
+    ensures pager { PreservesPager D.faults (Missed DrumFailed) pager.old pager.new result }
     ensures spoilt { result ≡ Err (Missed (Stopped Odd)) → (m.new ≡ m.old)
         × ((frames.new ≡ frames.old) × ((out.new ≡ out.old) × (input.new ≡ input.old))) }
 {
@@ -133,7 +133,6 @@ fn procedure<D: Drum, S: Source, K: Sink>(
         (regs_of m.new frames.now rest) read put taken result) }
     ensures keeps { PreservesPlace m.old m.new }
     ensures goes { IfOk result (λ next. Progresses object.now.words m.old next m.new) }
-    ensures same_references { SamePager pager.old pager.new }
     ensures reads { Reads (object.now.words + 1) object.now
         (pager_view D.room D.tracks D.journal D.faults pager.old)
         (pager_view D.room D.tracks D.journal D.faults pager.new) }
@@ -142,7 +141,7 @@ fn procedure<D: Drum, S: Source, K: Sink>(
     ensures source_failed { result ≡ Err Read → HasRisen (S.faults (source_of input.old)) (S.faults (source_of input.new)) }
     ensures sink_later { K.faults out.old ≤ K.faults out.new }
     ensures sink_failed { result ≡ Err Write → HasRisen (K.faults out.old) (K.faults out.new) }
-    ensures failed { result ≡ Err (Missed DrumFailed) → HasRisen (D.faults pager.old.drum.now) (D.faults pager.new.drum.now) }
+    ensures pager { PreservesPager D.faults (Missed DrumFailed) pager.old pager.new result }
     ensures odd { result ≡ Err (Missed (Stopped Odd)) → (m.new ≡ m.old) × ((out.new ≡ out.old) × (input.new ≡ input.old)) }
 {
     if m.behind() >= u64::from(object.words) {
@@ -182,15 +181,11 @@ fn dispatch<D: Drum>(
         × RefinesOrder (effect (code_in tracks object.now) (length frames.old.words)
         (regs_of m.old frames.old input) operation order.level
         order.address) refs (regs_of m.new frames.new input) result }
-    ensures keeps { PreservesPlace m.old m.new }
-    ensures goes { IfOk result (λ next. Progresses object.now.words m.old next m.new) }
-    ensures size { length frames.new.words ≡ length frames.old.words }
-    ensures same_references { SamePager pager.old pager.new }
+    ensures obeys { Obeys (Stopped Odd) object.now.words m.old m.new frames.old frames.new result }
     ensures reads { Reads (2 * object.now.words + 1) object.now
         (pager_view D.room D.tracks D.journal D.faults pager.old)
         (pager_view D.room D.tracks D.journal D.faults pager.new) }
-    ensures failed { result ≡ Err DrumFailed → HasRisen (D.faults pager.old.drum.now) (D.faults pager.new.drum.now) }
-    ensures odd { result ≡ Err (Stopped Odd) → (m.new ≡ m.old) × (frames.new ≡ frames.old) }
+    ensures pager { PreservesPager D.faults DrumFailed pager.old pager.new result }
 {
     match operation {
         Operation::Jump
@@ -231,11 +226,8 @@ fn move_on(
         → RefinesOrder (effect code (length frames.old.words)
         (regs_of m.old frames.old input) operation order.level order.address) []
         (regs_of m.new frames.new input) result }
-    ensures keeps { PreservesPlace m.old m.new }
-    ensures goes { IfOk result (λ next. Progresses words m.old next m.new) }
-    ensures size { length frames.new.words ≡ length frames.old.words }
+    ensures obeys { Obeys (Stopped Odd) words m.old m.new frames.old frames.new result }
     ensures homely { result ≢ Err DrumFailed }
-    ensures odd { result ≡ Err (Stopped Odd) → (m.new ≡ m.old) × (frames.new ≡ frames.old) }
 {
     match choose_next(m, frames, operation, order, words) {
         Ok(next) => Ok(next),
@@ -254,10 +246,7 @@ fn choose_next(
     ensures row { (code input : List ℕ) → frames.old.entered ≡ true → length code ≡ words → is_jump operation ≡ true
         → RefinesJump (effect code (length frames.old.words) (regs_of m.old frames.old input) operation order.level order.address)
         (regs_of m.new frames.new input) result }
-    ensures keeps { PreservesPlace m.old m.new }
-    ensures goes { IfOk result (λ next. Progresses words m.old next m.new) }
-    ensures size { length frames.new.words ≡ length frames.old.words }
-    ensures odd { result ≡ Err Odd → (m.new ≡ m.old) × (frames.new ≡ frames.old) }
+    ensures obeys { Obeys Odd words m.old m.new frames.old frames.new result }
 {
     match operation {
         Operation::Jump => jump(m, order.address, words),
@@ -285,11 +274,8 @@ fn go_on(
     ensures row { (code input : List ℕ) → IsTrue (frames.old.entered || is_start operation) → length code ≡ words
         → is_plain operation ≡ true → RefinesOrder (effect code (length frames.old.words) (regs_of m.old frames.old input) operation
         order.level order.address) [] (regs_of m.new frames.new input) result }
-    ensures keeps { PreservesPlace m.old m.new }
-    ensures goes { IfOk result (λ next. Progresses words m.old next m.new) }
-    ensures size { length frames.new.words ≡ length frames.old.words }
+    ensures obeys { Obeys (Stopped Odd) words m.old m.new frames.old frames.new result }
     ensures homely { result ≢ Err DrumFailed }
-    ensures odd { result ≡ Err (Stopped Odd) → (m.new ≡ m.old) × (frames.new ≡ frames.old) }
 {
     if m.behind() >= u64::from(words) {
         return Err(ODD);
@@ -315,10 +301,9 @@ fn long<D: Drum>(m: &mut Machine, object: &Object, pager: &mut Pager<D>) -> Resu
         result }
     ensures keeps { PreservesPlace m.old m.new }
     ensures goes { IfOk result (λ next. Progresses object.now.words m.old next m.new) }
-    ensures same_references { SamePager pager.old pager.new }
     ensures reads { Reads 1 object.now (pager_view D.room D.tracks D.journal D.faults pager.old)
         (pager_view D.room D.tracks D.journal D.faults pager.new) }
-    ensures failed { result ≡ Err DrumFailed → HasRisen (D.faults pager.old.drum.now) (D.faults pager.new.drum.now) }
+    ensures pager { PreservesPager D.faults DrumFailed pager.old pager.new result }
     ensures odd { result ≡ Err (Stopped Odd) → m.new ≡ m.old }
 {
     let word = match fetch(object, pager, m.behind()) {

@@ -3,6 +3,7 @@ ghost use Rattle.std.specs.Prelude.{◌≡◌, ◌+◌, ◌<◌, ◌≤◌, ◌^
 ghost use Rattle.gier_frames.specs.State.{State};
 ghost use Rattle.gier_order.specs.declared.operation.Operation.TheVariants.{False, Turn, Go};
 ghost use Rattle.gier_order.specs.Flat.Rows.{effect, jumps};
+ghost use Rattle.gier_exec.specs.Obedience.{Obeys};
 ghost use Rattle.gier_exec.specs.Rows.{regs_of};
 ghost use Rattle.gier_exec.specs.Following.{RefinesJump, go_row};
 ghost use Rattle.gier_exec.specs.Registers.{PreservesPlace, Progresses};
@@ -74,10 +75,7 @@ pub(crate) fn go(m: &mut Machine, frames: &mut Frames, words: u32) -> Result<u32
         → RefinesJump (effect code (length frames.old.words) (regs_of m.old frames.old input) Go l a)
         (regs_of m.new frames.new input)
         result }
-    ensures keeps { PreservesPlace m.old m.new }
-    ensures goes { IfOk result (λ next. Progresses words m.old next m.new) }
-    ensures size { length frames.new.words ≡ length frames.old.words }
-    ensures odd { result ≡ Err Odd → (m.new ≡ m.old) × (frames.new ≡ frames.old) }
+    ensures obeys { Obeys Odd words m.old m.new frames.old frames.new result }
 {
     if m.r() == 0 {
         return m.ahead(m.behind(), words);
@@ -94,10 +92,7 @@ fn go_to(m: &mut Machine, frames: &mut Frames, next: u32, words: u32) -> Result<
     ensures row { (code input : List ℕ) → frames.old.entered ≡ true → length code ≡ words → next ≡ m.old.r
         → RefinesJump (go_row code (length frames.old.words) (regs_of m.old frames.old input))
         (regs_of m.new frames.new input) result }
-    ensures keeps { PreservesPlace m.old m.new }
-    ensures goes { IfOk result (λ at. Progresses words m.old at m.new) }
-    ensures size { length frames.new.words ≡ length frames.old.words }
-    ensures odd { result ≡ Err Odd → (m.new ≡ m.old) × (frames.new ≡ frames.old) }
+    ensures obeys { Obeys Odd words m.old m.new frames.old frames.new result }
 {
     if m.steps_left() == 0 {
         return if can_go(frames, m.q()) {

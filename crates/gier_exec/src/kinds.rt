@@ -11,10 +11,9 @@ ghost use Rattle.gier_exec.specs.Rows.{regs_of, code_in};
 ghost use Rattle.gier_exec.specs.Following.{RefinesValue};
 ghost use Rattle.gier_exec.specs.Searching.{RefinesSearch, RefinesReading};
 ghost use Rattle.gier_exec.specs.Agreeing.{match_row};
-ghost use Rattle.gier_word.specs.Cause.{HasRisen};
 ghost use Rattle.gier_order.specs.Codes.{IsOrder};
 ghost use Rattle.gier_exec.specs.Registers.{Registers, PreservesPlace, Progresses};
-ghost use Rattle.gier_exec.specs.Reading.{CanRead, Reads, SamePager, pager_view};
+ghost use Rattle.gier_exec.specs.Reading.{PreservesPager, CanRead, Reads, pager_view};
 ghost use Rattle.gier_exec.specs.declared.stop.Miss.TheVariants.{Drum as DrumFailed, Stop as Stopped};
 ghost use Rattle.gier_exec.specs.declared.stop.Stop.TheVariants.{Odd};
 
@@ -66,11 +65,10 @@ pub(crate) fn compare<D: Drum>(
         (effect (code_in tracks object.now) (length frames.now.words) (regs_of m.now frames.now input) Agree order.level
         order.address) (regs_of m.now frames.now input) result }
     ensures goes { IfOk result (λ next. Progresses object.now.words m.now next m.now) }
-    ensures same_references { SamePager pager.old pager.new }
     ensures reads { Reads (2 * object.now.words) object.now
         (pager_view D.room D.tracks D.journal D.faults pager.old)
         (pager_view D.room D.tracks D.journal D.faults pager.new) }
-    ensures failed { result ≡ Err DrumFailed → HasRisen (D.faults pager.old.drum.now) (D.faults pager.new.drum.now) }
+    ensures pager { PreservesPager D.faults DrumFailed pager.old pager.new result }
 {
     let list = m.behind();
     let count = match fetch(object, pager, list) {
@@ -128,10 +126,9 @@ fn match_count<D: Drum>(
         (agrees_row (code_in tracks object.now) size regs (groups_for count) (address + 1) list count)) result }
     ensures few { OnOk result (count ≤ 80) }
     ensures some { OnOk result (1 ≤ count) }
-    ensures same_references { SamePager pager.old pager.new }
     ensures reads { Reads 1 object.now (pager_view D.room D.tracks D.journal D.faults pager.old)
         (pager_view D.room D.tracks D.journal D.faults pager.new) }
-    ensures failed { result ≡ Err DrumFailed → HasRisen (D.faults pager.old.drum.now) (D.faults pager.new.drum.now) }
+    ensures pager { PreservesPager D.faults DrumFailed pager.old pager.new result }
 {
     let head = match fetch_order(object, pager, address) {
         Ok(head) => head,
@@ -169,11 +166,10 @@ fn compare_groups<D: Drum>(
         (pager_view D.room D.tracks D.journal D.faults pager.new)
         (agrees_row (code_in tracks object.now) size regs (groups_for count) formals actuals count) regs
         (λ done. goes_row (code_in tracks object.now) size regs (actuals + groups_for count) regs) result }
-    ensures same_references { SamePager pager.old pager.new }
     ensures reads { Reads (2 * ((count + 9) / 10)) object.now
         (pager_view D.room D.tracks D.journal D.faults pager.old)
         (pager_view D.room D.tracks D.journal D.faults pager.new) }
-    ensures failed { result ≡ Err DrumFailed → HasRisen (D.faults pager.old.drum.now) (D.faults pager.new.drum.now) }
+    ensures pager { PreservesPager D.faults DrumFailed pager.old pager.new result }
 {
     for group in 0..count.div_ceil(GROUP) {
         match compare_group(
@@ -204,10 +200,9 @@ fn compare_group<D: Drum>(
         → RefinesSearch object.now (pager_view D.room D.tracks D.journal D.faults pager.old)
         (pager_view D.room D.tracks D.journal D.faults pager.new)
         (match_row (code_in tracks object.now) regs formals actuals left next) regs (λ done. next) result }
-    ensures same_references { SamePager pager.old pager.new }
     ensures reads { Reads 2 object.now (pager_view D.room D.tracks D.journal D.faults pager.old)
         (pager_view D.room D.tracks D.journal D.faults pager.new) }
-    ensures failed { result ≡ Err DrumFailed → HasRisen (D.faults pager.old.drum.now) (D.faults pager.new.drum.now) }
+    ensures pager { PreservesPager D.faults DrumFailed pager.old pager.new result }
 {
     let formals = match fetch_packed(object, pager, formals, left, FIRST_FORMAL) {
         Ok(word) => word,
@@ -239,10 +234,9 @@ fn fetch_packed<D: Drum>(
         → RefinesSearch object.now (pager_view D.room D.tracks D.journal D.faults pager.old)
         (pager_view D.room D.tracks D.journal D.faults pager.new)
         (reads_row (code_in tracks object.now) address (λ word. needs (is_packed first left word) (go word))) regs go result }
-    ensures same_references { SamePager pager.old pager.new }
     ensures reads { Reads 1 object.now (pager_view D.room D.tracks D.journal D.faults pager.old)
         (pager_view D.room D.tracks D.journal D.faults pager.new) }
-    ensures failed { result ≡ Err DrumFailed → HasRisen (D.faults pager.old.drum.now) (D.faults pager.new.drum.now) }
+    ensures pager { PreservesPager D.faults DrumFailed pager.old pager.new result }
 {
     let word = match fetch(object, pager, address) {
         Ok(word) => word,
@@ -307,10 +301,9 @@ pub(crate) fn look_at_kind<D: Drum>(
         order.address) (regs_of m.new frames.now input) result }
     ensures keeps { PreservesPlace m.old m.new }
     ensures goes { IfOk result (λ next. Progresses object.now.words m.old next m.new) }
-    ensures same_references { SamePager pager.old pager.new }
     ensures reads { Reads 2 object.now (pager_view D.room D.tracks D.journal D.faults pager.old)
         (pager_view D.room D.tracks D.journal D.faults pager.new) }
-    ensures failed { result ≡ Err DrumFailed → HasRisen (D.faults pager.old.drum.now) (D.faults pager.new.drum.now) }
+    ensures pager { PreservesPager D.faults DrumFailed pager.old pager.new result }
     ensures odd { result ≡ Err (Stopped Odd) → m.new ≡ m.old }
 {
     let address = match formal_address(frames, order) {
@@ -356,10 +349,9 @@ fn fetch_kind<D: Drum>(
         (pager_view D.room D.tracks D.journal D.faults pager.new)
         (reads_row (code_in tracks object.now) (list + at / 10)
         (λ word. needs (is_packed 1 (count - at / 10 * 10) word) (go (kind_in word (at % 10))))) regs go result }
-    ensures same_references { SamePager pager.old pager.new }
     ensures reads { Reads 1 object.now (pager_view D.room D.tracks D.journal D.faults pager.old)
         (pager_view D.room D.tracks D.journal D.faults pager.new) }
-    ensures failed { result ≡ Err DrumFailed → HasRisen (D.faults pager.old.drum.now) (D.faults pager.new.drum.now) }
+    ensures pager { PreservesPager D.faults DrumFailed pager.old pager.new result }
 {
     let group = at / GROUP;
     match fetch_packed(

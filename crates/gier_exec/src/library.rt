@@ -1,6 +1,6 @@
 // The standard procedures, on R, on the data and on the printer.
 ghost use Rattle.std.specs.Prelude.{◌≡◌, ◌≢◌, ◌+◌, ◌*◌, ◌/◌, ◌%◌, ◌<◌, ◌≤◌, ◌^◌, ◌++◌, ℕ, List, [], min, take, length, Some};
-ghost use Rattle.std.specs.Prelude.{IfOk, Ok, Err};
+ghost use Rattle.std.specs.Prelude.{Ok, Err};
 ghost use Rattle.gier_word.specs.Cause.{HasCause, HasRisen};
 ghost use Rattle.gier_word.specs.Words.{int_of_word};
 ghost use Rattle.gier_word.specs.Standard.{integer_text, character_text, integer_read, character_read};
@@ -16,7 +16,7 @@ ghost use Rattle.gier_exec.specs.References.{Refers};
 ghost use Rattle.gier_exec.specs.Turning.{IsRest, RefinesExecution};
 ghost use Rattle.gier_exec.specs.Standards.{on_from, Sends, Computes, Receives, PrintsOn};
 ghost use Rattle.gier_exec.specs.Registers.{PreservesPlace, weight};
-ghost use Rattle.gier_exec.specs.Reading.{CanRead, Reads, SamePager, pager_view};
+ghost use Rattle.gier_exec.specs.Reading.{PreservesPager, CanRead, Reads, pager_view};
 ghost use Rattle.gier_exec.specs.declared.stop.Miss.TheVariants.{Drum as DrumFailed, Stop as Stopped};
 ghost use Rattle.gier_exec.specs.declared.stop.Quit.TheVariants.{Miss as Missed, Read, Write};
 ghost use Rattle.gier_exec.specs.declared.stop.Stop.TheVariants.{Alarm as Alarmed, Odd};
@@ -78,7 +78,6 @@ pub(crate) fn library<D: Drum, S: Source, K: Sink>(
         (regs_of m.old s (taken ++ rest)) (regs_of m.new s rest) read put taken (on_from m.old.place result)) }
     ensures keeps { PreservesPlace m.old m.new }
     ensures lighter { weight m.new ≤ weight m.old }
-    ensures same_references { SamePager pager.old pager.new }
     ensures reads { Reads (object.now.words + 1) object.now
         (pager_view D.room D.tracks D.journal D.faults pager.old)
         (pager_view D.room D.tracks D.journal D.faults pager.new) }
@@ -87,7 +86,7 @@ pub(crate) fn library<D: Drum, S: Source, K: Sink>(
     ensures source_failed { result ≡ Err Read → HasRisen (S.faults (source_of input.old)) (S.faults (source_of input.new)) }
     ensures sink_later { K.faults out.old ≤ K.faults out.new }
     ensures sink_failed { result ≡ Err Write → HasRisen (K.faults out.old) (K.faults out.new) }
-    ensures failed { result ≡ Err (Missed DrumFailed) → HasRisen (D.faults pager.old.drum.now) (D.faults pager.new.drum.now) }
+    ensures pager { PreservesPager D.faults (Missed DrumFailed) pager.old pager.new result }
     ensures odd { result ≡ Err (Missed (Stopped Odd)) → (m.new ≡ m.old) × ((out.new ≡ out.old) × (input.new ≡ input.old)) }
 {
     match number {
@@ -241,13 +240,12 @@ fn print_text<D: Drum, K: Sink>(
         × ((size : ℕ) (regs : Regs) → PrintsOn (prints_string (code_in tracks object.now) size regs address)
         (on (code_in tracks object.now) size regs regs) read put result) }
     ensures no_read { result ≢ Err Read }
-    ensures same_references { SamePager pager.old pager.new }
     ensures reads { Reads (object.now.words + 1) object.now
         (pager_view D.room D.tracks D.journal D.faults pager.old)
         (pager_view D.room D.tracks D.journal D.faults pager.new) }
     ensures sink_later { K.faults out.old ≤ K.faults out.new }
     ensures sink_failed { result ≡ Err Write → HasRisen (K.faults out.old) (K.faults out.new) }
-    ensures failed { result ≡ Err (Missed DrumFailed) → HasRisen (D.faults pager.old.drum.now) (D.faults pager.new.drum.now) }
+    ensures pager { PreservesPager D.faults (Missed DrumFailed) pager.old pager.new result }
     ensures odd { result ≡ Err (Missed (Stopped Odd)) → out.new ≡ out.old }
 {
     let length = match fetch(object, pager, address) {
@@ -281,13 +279,12 @@ fn print_words<D: Drum, K: Sink>(
         × ((size : ℕ) (regs : Regs) → PrintsOn (prints_words (code_in tracks object.now) size regs ((length + 4) / 5) address
         length) (on (code_in tracks object.now) size regs regs) read put result) }
     ensures no_read { result ≢ Err Read }
-    ensures same_references { SamePager pager.old pager.new }
     ensures reads { Reads ((length + 4) / 5) object.now
         (pager_view D.room D.tracks D.journal D.faults pager.old)
         (pager_view D.room D.tracks D.journal D.faults pager.new) }
     ensures sink_later { K.faults out.old ≤ K.faults out.new }
     ensures sink_failed { result ≡ Err Write → HasRisen (K.faults out.old) (K.faults out.new) }
-    ensures failed { result ≡ Err (Missed DrumFailed) → HasRisen (D.faults pager.old.drum.now) (D.faults pager.new.drum.now) }
+    ensures pager { PreservesPager D.faults (Missed DrumFailed) pager.old pager.new result }
     ensures no_odd { result ≢ Err (Missed (Stopped Odd)) }
 {
     for at in 0..length.div_ceil(BYTES) {
@@ -317,12 +314,11 @@ fn print_word<D: Drum, K: Sink>(
         × ((go : Row) → PrintsOn (reads (code_in tracks object.now) address
         (λ word. behind_bytes (take (min left piece) (bytes_in word)) go)) go read put result) }
     ensures no_read { result ≢ Err Read }
-    ensures same_references { SamePager pager.old pager.new }
     ensures reads { Reads 1 object.now (pager_view D.room D.tracks D.journal D.faults pager.old)
         (pager_view D.room D.tracks D.journal D.faults pager.new) }
     ensures sink_later { K.faults out.old ≤ K.faults out.new }
     ensures sink_failed { result ≡ Err Write → HasRisen (K.faults out.old) (K.faults out.new) }
-    ensures failed { result ≡ Err (Missed DrumFailed) → HasRisen (D.faults pager.old.drum.now) (D.faults pager.new.drum.now) }
+    ensures pager { PreservesPager D.faults (Missed DrumFailed) pager.old pager.new result }
     ensures odd { result ≡ Err (Missed (Stopped Odd)) → object.now.words ≤ address }
 {
     match fetch(object, pager, address) {

@@ -8,9 +8,9 @@ ghost use Rattle.gier_exec.specs.Searching.{RefinesSearch};
 ghost use Rattle.gier_places.specs.Contents.{Agrees};
 ghost use Rattle.gier_exec.specs.Rows.{word_in, code_in};
 ghost use Rattle.gier_exec.specs.References.{Refers, RefinesFetch, read_at, fetched_at};
-ghost use Rattle.gier_word.specs.Cause.{HasCause, HasRisen};
+ghost use Rattle.gier_word.specs.Cause.{HasCause};
 ghost use Rattle.gier_order.specs.Codes.{IsOrder};
-ghost use Rattle.gier_exec.specs.Reading.{CanRead, Reads, SamePager, pager_view};
+ghost use Rattle.gier_exec.specs.Reading.{PreservesPager, CanRead, Reads, SamePager, pager_view};
 ghost use Rattle.gier_exec.specs.declared.stop.Miss.TheVariants.{Drum as DrumFailed, Stop as Stopped};
 ghost use Rattle.gier_exec.specs.declared.stop.Stop.TheVariants.{Odd};
 
@@ -63,7 +63,6 @@ pub(crate) fn fetch<D: Drum>(
     address: u64,
 ) -> Result<u64, Miss>
     requires can { CanRead 1 object.now (pager_view D.room D.tracks D.journal D.faults pager.old) }
-    ensures same_references { SamePager pager.old pager.new }
     ensures reads { Reads 1 object.now (pager_view D.room D.tracks D.journal D.faults pager.old)
         (pager_view D.room D.tracks D.journal D.faults pager.new) }
     ensures small { IfOk result (λ word. word < 2 ^ 40) }
@@ -75,7 +74,7 @@ pub(crate) fn fetch<D: Drum>(
         → RefinesFetch (reads (code_in tracks object.now) address go) go address result }
     ensures within { IfOk result (λ word. address < object.now.words) }
     ensures odd { result ≡ Err (Stopped Odd) → object.now.words ≤ address }
-    ensures failed { result ≡ Err DrumFailed → HasRisen (D.faults pager.old.drum.now) (D.faults pager.new.drum.now) }
+    ensures pager { PreservesPager D.faults DrumFailed pager.old pager.new result }
 {
     if address >= u64::from(object.words) {
         return Err(ODD);
@@ -93,7 +92,6 @@ pub(crate) fn fetch_order<D: Drum>(
     address: u64,
 ) -> Result<Order, Miss>
     requires can { CanRead 1 object.now (pager_view D.room D.tracks D.journal D.faults pager.old) }
-    ensures same_references { SamePager pager.old pager.new }
     ensures reads { Reads 1 object.now (pager_view D.room D.tracks D.journal D.faults pager.old)
         (pager_view D.room D.tracks D.journal D.faults pager.new) }
     ensures row { (tracks : List (List ℕ)) (size : ℕ) (regs : Regs) (go : Order → Row) → D.tracks pager.old.drum.now ≡ Some tracks
@@ -103,7 +101,7 @@ pub(crate) fn fetch_order<D: Drum>(
         (reads_order (code_in tracks object.now) size regs address go) regs go result }
     ensures order { IfOk result IsOrder }
     ensures within { IfOk result (λ order. address < object.now.words) }
-    ensures failed { result ≡ Err DrumFailed → HasRisen (D.faults pager.old.drum.now) (D.faults pager.new.drum.now) }
+    ensures pager { PreservesPager D.faults DrumFailed pager.old pager.new result }
 {
     let word = match fetch(object, pager, address) {
         Ok(word) => word,
@@ -123,7 +121,6 @@ pub(crate) fn fetch_only<D: Drum>(
     operation: Operation,
 ) -> Result<Order, Miss>
     requires can { CanRead 1 object.now (pager_view D.room D.tracks D.journal D.faults pager.old) }
-    ensures same_references { SamePager pager.old pager.new }
     ensures reads { Reads 1 object.now (pager_view D.room D.tracks D.journal D.faults pager.old)
         (pager_view D.room D.tracks D.journal D.faults pager.new) }
     ensures row { (tracks : List (List ℕ)) (size : ℕ) (regs : Regs) (go : Order → Row) → D.tracks pager.old.drum.now ≡ Some tracks
@@ -135,7 +132,7 @@ pub(crate) fn fetch_only<D: Drum>(
     ensures order { IfOk result IsOrder }
     ensures only { IfOk result (λ order. is_a operation order ≡ true) }
     ensures within { IfOk result (λ order. address < object.now.words) }
-    ensures failed { result ≡ Err DrumFailed → HasRisen (D.faults pager.old.drum.now) (D.faults pager.new.drum.now) }
+    ensures pager { PreservesPager D.faults DrumFailed pager.old pager.new result }
 {
     let order = match fetch_order(object, pager, address) {
         Ok(order) => order,

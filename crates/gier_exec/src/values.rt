@@ -4,6 +4,7 @@ ghost use Rattle.std.specs.Prelude.{if◌then◌else◌};
 ghost use Rattle.gier_order.specs.declared.operation.Operation.TheVariants.{Index, Keep, Put, Lab, Array, Block, Start, Leave};
 ghost use Rattle.gier_order.specs.Flat.Row.{Row};
 ghost use Rattle.gier_order.specs.Flat.Rows.{effect, cell_word, in_level};
+ghost use Rattle.gier_exec.specs.Obedience.{ObeysInPlace};
 ghost use Rattle.gier_exec.specs.Registers.{Registers};
 ghost use Rattle.gier_exec.specs.Rows.{regs_of};
 ghost use Rattle.gier_exec.specs.Numbers.{is_combined, is_value, is_plain, is_start};
@@ -187,10 +188,7 @@ fn form_label(m: &mut Machine, frames: &mut Frames, order: Order) -> Result<(), 
     ensures row { (code input : List ℕ) → frames.old.entered ≡ true → m.old.place + 1 < length code
         → RefinesNext (effect code (length frames.old.words) (regs_of m.old frames.old input) Lab order.level order.address)
         (regs_of m.new frames.new input) result }
-    ensures keeps { PreservesPlace m.old m.new }
-    ensures lighter { weight m.new ≤ weight m.old }
-    ensures size { length frames.new.words ≡ length frames.old.words }
-    ensures odd { result ≡ Err Odd → (m.new ≡ m.old) × (frames.new ≡ frames.old) }
+    ensures stays { ObeysInPlace m.old m.new frames.old frames.new result }
 {
     match place_of(frames, order.level, 0) {
         Ok(base) => {
@@ -209,10 +207,7 @@ fn start(m: &mut Machine, frames: &mut Frames, order: Order) -> Result<(), Stop>
     ensures row { (code input : List ℕ) → m.old.place + 1 < length code
         → RefinesNext (effect code (length frames.old.words) (regs_of m.old frames.old input) Start order.level order.address)
         (regs_of m.new frames.new input) result }
-    ensures keeps { PreservesPlace m.old m.new }
-    ensures lighter { weight m.new ≤ weight m.old }
-    ensures size { length frames.new.words ≡ length frames.old.words }
-    ensures odd { result ≡ Err Odd → (m.new ≡ m.old) × (frames.new ≡ frames.old) }
+    ensures stays { ObeysInPlace m.old m.new frames.old frames.new result }
 {
     match frames.start(order.level, order.address) {
         Ok(()) => {
@@ -250,10 +245,7 @@ fn enter_block(m: &mut Machine, frames: &mut Frames, order: Order) -> Result<(),
     ensures row { (code input : List ℕ) → frames.old.entered ≡ true → m.old.place + 1 < length code
         → RefinesNext (effect code (length frames.old.words) (regs_of m.old frames.old input) Block order.level order.address)
         (regs_of m.new frames.new input) result }
-    ensures keeps { PreservesPlace m.old m.new }
-    ensures lighter { weight m.new ≤ weight m.old }
-    ensures size { length frames.new.words ≡ length frames.old.words }
-    ensures odd { result ≡ Err Odd → (m.new ≡ m.old) × (frames.new ≡ frames.old) }
+    ensures stays { ObeysInPlace m.old m.new frames.old frames.new result }
 {
     if m.steps_left() == 0 {
         return if order.address < HEADER {
@@ -281,10 +273,7 @@ fn leave_block(m: &mut Machine, frames: &mut Frames) -> Result<(), Stop>
     ensures row { (code input : List ℕ) → (l a : ℕ) → frames.old.entered ≡ true → m.old.place + 1 < length code
         → RefinesNext (effect code (length frames.old.words) (regs_of m.old frames.old input) Leave l a)
         (regs_of m.new frames.new input) result }
-    ensures keeps { PreservesPlace m.old m.new }
-    ensures lighter { weight m.new ≤ weight m.old }
-    ensures size { length frames.new.words ≡ length frames.old.words }
-    ensures odd { result ≡ Err Odd → (m.new ≡ m.old) × (frames.new ≡ frames.old) }
+    ensures stays { ObeysInPlace m.old m.new frames.old frames.new result }
 {
     if m.depth() == 0 {
         return Err(Stop::Odd);

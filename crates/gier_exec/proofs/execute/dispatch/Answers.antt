@@ -52,11 +52,7 @@ returns-in_default g c =
     record {
       row = λ tracks input told agrees there.
           ([], refers_none _ _, c.go_on.ensures.row _ input there (length_code tracks c.args.object.now) (plain_of c.args.operation others outside c.requires.other));
-      keeps = c.go_on.ensures.keeps;
-      goes = c.go_on.ensures.goes;
-      size = c.go_on.ensures.size;
-      same_references = same_pager _;
+      obeys = c.go_on.ensures.obeys;
       reads = reads_nothing _ _ _;
-      failed = λ e. absurd (c.go_on.ensures.homely e);
-      odd = c.go_on.ensures.odd;
+      pager = record { same = same_pager _; failed = λ e. absurd (c.go_on.ensures.homely e) };
     }

@@ -26,7 +26,7 @@ loop-group-init g c = (
 pub loop-group-preserved : goal.loop-group-preserved
 loop-group-preserved g c = (
   reads_joined (2 * c.loop-group.group) 2 (2 * (c.loop-group.group + 1)) _ _ _ _ c.loop-group.invariant.0 c.compare_group.ensures.reads (omega arith),
-  same_pager_both _ _ _ c.loop-group.invariant.1 c.compare_group.ensures.same_references,
+  same_pager_both _ _ _ c.loop-group.invariant.1 c.compare_group.ensures.pager.same,
   λ tracks size regs told agree.
       let code = code_in tracks c.args.object.now in
       let groups = groups_for c.args.count in

@@ -33,7 +33,7 @@ pub loop-at-preserved : goal.loop-at-preserved
 loop-at-preserved g c = (
   reads_joined c.loop-at.at 1 (c.loop-at.at + 1) _ _ _ _ c.loop-at.invariant.0 c.print_word.ensures.reads (omega arith),
   omega (arith, c.loop-at.invariant.1, c.print_word.ensures.sink_later),
-  same_pager_both _ _ _ c.loop-at.invariant.2 c.print_word.ensures.same_references,
+  same_pager_both _ _ _ c.loop-at.invariant.2 c.print_word.ensures.pager.same,
   λ tracks told agrees.
       let object = c.args.object.now in
       let so_far = c.loop-at.invariant.3 tracks told agrees in
