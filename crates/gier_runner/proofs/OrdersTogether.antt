@@ -54,3 +54,6 @@ sizes_more words old mid new so steps frames places trace noted = record {
 pub risen_later : (old mid new : ℕ) → old ≤ mid → HasRisen mid new → HasRisen old new
 risen_later old mid new later (inl rose) = inl (omega arith)
 risen_later old mid new later (inr at_end) = inr at_end
+
+-- what holds before the first order, and what one more order keeps
+pub ruleset one_more = (reads_begin, reads_more, sizes_begin, sizes_more, risen_later)

@@ -25,7 +25,7 @@ use gier_order::{Object, Recent};
 use gier_places::Places;
 
 /// Obeys the orders from the machine's place on, and leaves the place at the one that ended the run.
-#[tactic(auto, using(crate::proofs::Numbers::next_counts, crate::proofs::OrdersTogether::reads_begin, crate::proofs::OrdersTogether::reads_more, crate::proofs::OrdersTogether::sizes_begin, crate::proofs::OrdersTogether::sizes_more, crate::proofs::OrdersTogether::risen_later))]
+#[tactic(auto, using(crate::proofs::Numbers::next_counts, crate::proofs::OrdersTogether::one_more))]
 pub(crate) fn run_orders<D: Drum, S: Source, K: Sink>(
     m: &mut Machine,
     frames: &mut Frames,
