@@ -16,7 +16,8 @@ use Rattle.gier_text.specs.declared.text.Way.TheVariants.{Backward}
 use Rattle.gier_text.specs.View.{View, KeepsTracks, SameTracks, OrdersLeft}
 use Rattle.gier_pass7.specs.Invariant.{IsShort as IsShortSeven}
 use Rattle.gier_limits.specs.Areas.{longest}
-use Rattle.gier_pass8.specs.Exact.{IsComplete, WritesText8}
+use Rattle.gier_pass8.specs.Exact.{WritesText8}
+use Rattle.gier_tree.specs.Complete.{IsComplete}
 use Rattle.gier_pass8.specs.Invariant.{IsShort, Relates}
 use Rattle.gier_pass9.specs.ObjectOfText.{object_words, HoldsWords, Makes}
 use Rattle.gier_pass9.specs.Objects.{IsText7}

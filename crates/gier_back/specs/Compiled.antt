@@ -7,7 +7,7 @@ use Rattle.gier_limits.specs.Areas.{longest, first_of, object_first, words_of, c
 use Rattle.gier_text.specs.declared.fronted.Fronted.{Fronted}
 use Rattle.gier_text.specs.SymbolsOnTracks.{text_on}
 use Rattle.gier_pass7.specs.Invariant.{IsShort as IsShortSeven}
-use Rattle.gier_pass8.specs.Exact.{IsComplete}
+use Rattle.gier_tree.specs.Complete.{IsComplete}
 use Rattle.gier_pass8.specs.Invariant.{IsShort}
 use Rattle.gier_pass9.specs.ObjectOfText.{object_words, HoldsWords}
 use Rattle.gier_pass9.specs.Objects.{IsText7}

@@ -12,7 +12,7 @@ use Rattle.gier_tree.specs.Orders.{State, Following, Code, order, with_label, de
 use Rattle.gier_tree.specs.Coded.{both, then_order, sign_code, number_code, choice, code_expr, code_simple, code_implication, code_disjunction, code_conjunction, code_negation, code_relation, code_arithmetic, code_term, code_factor, code_primary, code_call, alone_code, adding_operation, multiplying_operation, comparing_operation}
 use Rattle.gier_tree.specs.Places.{Places}
 use Rattle.gier_tree.specs.Trees.{Adding, Add, Subtract, Multiplying, Multiply, Divide, Comparing, LessThan, AtMost, EqualTo, AtLeast, MoreThan, Unequal, Expr, OneSimple, IfExpr, Simple, OneImplication, Equivalent, Implication, OneDisjunction, Implies, Disjunction, OneConjunction, Either, Conjunction, OneNegation, Both, Negation, OneRelation, Negated, Relation, OneArithmetic, Compared, Arithmetic, OneTerm, Signed, Summed, Term, OneFactor, Multiplied, Factor, OnePrimary, Raised, Primary, Numeral, Logical, Bracketed, OneCall, OneElement, Call, Alone, WithActuals}
-use Rattle.gier_flat.specs.Words.{HasStop}
+use Rattle.gier_tree.specs.Words.{HasStop}
 use Rattle.gier_flat.proofs.Positions.{At, behind}
 use Rattle.gier_flat.proofs.Orders.{order_next, labelled_next, defined}
 use Rattle.gier_flat.specs.Fair.{IsCell, FairExpr, FairSimple, FairImplication, FairDisjunction, FairConjunction, FairNegation, FairRelation, FairArithmetic, FairTerm, FairFactor, FairPrimary, FairCall}

@@ -9,7 +9,7 @@ use Rattle.gier_tree.specs.Object.{Piece, APlace, piece_of, words_of, address_of
 use Rattle.gier_tree.specs.Text7.{code_program}
 use Rattle.gier_flat.specs.Example.{example}
 use Rattle.gier_flat.specs.Premises.{IsLabel, Premises}
-use Rattle.gier_flat.specs.Words.{words_in, HasStop, PlacesAreAddresses}
+use Rattle.gier_tree.specs.Words.{words_in, HasStop, PlacesAreAddresses}
 
 module _ (text : List Symbol) where
   -- the place of a label behind so many words

@@ -10,7 +10,7 @@ use Rattle.gier_order.specs.declared.operation.Operation.TheVariants as op
 use Rattle.gier_tree.specs.Orders.{State, Following, Code, order, with_label, define, new, number_of, behind_word, first_label}
 use Rattle.gier_tree.specs.Object.{words_of, need_behind, need_at}
 use Rattle.gier_tree.specs.Coded.{choice}
-use Rattle.gier_flat.specs.Words.{words_in, stop_tag}
+use Rattle.gier_tree.specs.Words.{words_in, stop_tag}
 use Rattle.gier_flat.proofs.Positions.{At, NoStop, no_stop_both, words_both}
 use Rattle.gier_flat.proofs.OrderRows.{piece_is}
 

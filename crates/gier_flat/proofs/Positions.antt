@@ -5,7 +5,7 @@ use Rattle.std.proofs.lemmas.List.{append_assoc}
 use Rattle.gier_symbol.specs.declared.symbol.Symbol.{Symbol}
 use Rattle.gier_tree.specs.Orders.{State}
 use Rattle.gier_tree.specs.Object.{Piece, APlace, AUse, AWordUse, ARoom, ANeed, ACount, AWord, AnOrder, piece_of, words_of, object_word, object_from, object_of}
-use Rattle.gier_flat.specs.Words.{words_in, stop_tag, HasStop}
+use Rattle.gier_tree.specs.Words.{words_in, stop_tag, HasStop}
 
 pub words_both : (a b : List Symbol) → words_in (a ++ b) ≡ words_in a + words_in b
 words_both [] b = omega arith

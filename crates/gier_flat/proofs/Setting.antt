@@ -2,7 +2,7 @@
 use Rattle.std.proofs.Common.{◌<◌, ℕ, List, length}
 use Rattle.std.specs.Prelude.{◌^◌}
 use Rattle.gier_symbol.specs.declared.symbol.Symbol.{Symbol}
-use Rattle.gier_flat.specs.Words.{HasStop, PlacesAreAddresses}
+use Rattle.gier_tree.specs.Words.{HasStop, PlacesAreAddresses}
 use Rattle.gier_flat.proofs.OrderRows.{object}
 
 pub record Setting : Type 0 where

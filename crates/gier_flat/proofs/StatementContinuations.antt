@@ -13,7 +13,7 @@ use Rattle.gier_tree.specs.OwnCount.{owns_in_unconditional}
 use Rattle.gier_tree.specs.Lines.{first_left}
 use Rattle.gier_tree.specs.Places.{Places}
 use Rattle.gier_tree.specs.Trees.{Expr, OneSimple, IfExpr, Simple, OneImplication, OneDisjunction, OneConjunction, OneNegation, OneRelation, OneArithmetic, OneTerm, OneFactor, Primary, OnePrimary, Bracketed, OneCall, Call, Alone, WithActuals, OneExpr, NoActuals, LeftSide, OneName, LeftElement, LeftPart, LabelPlace, Group, MkBlock, MkCompound, Statements, NoStatements, MoreStatements, Statement, OneUnconditional, OneConditional, OneLoop, Unconditional, MkUnconditional, Basic, OneGroup, Assign, Jump, CallStatement, Dummy, Conditional, IfThen, IfElse, IfLoop}
-use Rattle.gier_flat.specs.Words.{HasStop}
+use Rattle.gier_tree.specs.Words.{HasStop}
 use Rattle.gier_flat.proofs.Orders.{defined}
 use Rattle.gier_flat.specs.Fair.{IsCell, FairTarget, FairTargetSimple, FairTargetPrimary, FairLeft, FairLefts, FairCalled, FairStatement, FairStatements, FairUnconditional, FairBasic, FairGroup, FairConditional}
 use Rattle.gier_flat.proofs.Continuations.{Passes, passes_then, passes_order, passes_labelled, passes_order_behind, passes_choice, passes_expr}

@@ -8,7 +8,7 @@ use Rattle.gier_tree.specs.Object.{piece_of, words_of}
 use Rattle.gier_meaning.specs.Live.{Live, Shape, InProgram, InBlock, InProcedure, InEvaluation, Stop}
 use Rattle.gier_meaning.specs.Outcome.{Why, Alarmed, NoStepLeft, Senseless}
 use Rattle.gier_meaning.specs.Observation.{Ending, Ended, Stopped, Observation}
-use Rattle.gier_flat.specs.Words.{words_in}
+use Rattle.gier_tree.specs.Words.{words_in}
 
 -- a stop of the meaning that has no sense is none of a run
 abbrev pub IsStop : Why → row.Ending → Type 0

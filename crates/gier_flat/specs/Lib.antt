@@ -1,4 +1,3 @@
-pub mod Words
 pub mod Alike
 pub mod Fair
 pub mod Premises

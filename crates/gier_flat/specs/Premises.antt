@@ -16,7 +16,7 @@ use Rattle.gier_env.specs.Env.{Env, Outermost, Inside, NoBindings, with_entities
 use Rattle.gier_env.specs.Standing.{standard_bindings}
 use Rattle.gier_env.specs.Statements.{has}
 use Rattle.gier_flat.specs.Fair.{FairProgram}
-use Rattle.gier_flat.specs.Words.{words_in, HasStop, PlacesAreAddresses}
+use Rattle.gier_tree.specs.Words.{words_in, HasStop, PlacesAreAddresses}
 
 -- the identifiers of the program's own labels, and what identifiers mean in it
 abbrev pub own_labels : Program → List ℕ

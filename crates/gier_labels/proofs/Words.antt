@@ -10,7 +10,8 @@ use Rattle.gier_text.specs.TablesModel.{TablesModel, tables_model, with_at}
 use Rattle.gier_text.specs.Lists.{TableList, list_at, list_in, with_entry, with_word, word_at}
 use Rattle.gier_text.proofs.ListExtents.{list_at-map}
 use Rattle.gier_text.proofs.OutboxSymbols.{listed_words}
-use Rattle.gier_labels.specs.Labels.{HasLabels, part_of, place_of, word_of}
+use Rattle.gier_labels.specs.Labels.{HasLabels, part_of, word_of}
+use Rattle.gier_tree.specs.Complete.{place_of}
 use Rattle.gier_labels.proofs.Lists.{changed}
 
 -- the word of a label in a list

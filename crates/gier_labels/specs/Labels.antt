@@ -1,14 +1,12 @@
 -- The words of labels in the first list of the tables.
-use Rattle.std.specs.Prelude.{◌≡◌, ◌≤◌, ◌-◌, ◌^◌, ℕ, nat_lt, if◌then◌else◌, length}
+use Rattle.std.specs.Prelude.{◌≡◌, ◌≤◌, ◌^◌, ℕ, nat_lt, if◌then◌else◌, length}
 use Rattle.gier_text.specs.TablesModel.{TablesModel}
 use Rattle.gier_text.specs.Lists.{list_at, word_at}
+use Rattle.gier_tree.specs.Complete.{place_of}
 
 -- declared labels have the first word of an entry, and all others, which are numbered from 2^23 up, the second
 abbrev pub part_of : ℕ → ℕ
 part_of number = if nat_lt number (2 ^ 23) then 0 else 1
-
-abbrev pub place_of : ℕ → ℕ
-place_of number = if nat_lt number (2 ^ 23) then number else number - 2 ^ 23
 
 -- the word of a label, and 0 where none was set
 abbrev pub word_of : TablesModel → ℕ → ℕ

@@ -4,7 +4,8 @@
 ghost use Rattle.std.specs.Prelude.{◌≡◌, ◌≢◌, ◌<◌, ◌≤◌, ◌+◌, ◌-◌, ◌*◌, ◌^◌, ℕ, [], length};
 ghost use Rattle.gier_text.specs.TablesModel.{tables_model};
 ghost use Rattle.gier_text.specs.Lists.{list_at};
-ghost use Rattle.gier_labels.specs.Labels.{HasLabels, KeepsOthers, part_of, place_of, word_of};
+ghost use Rattle.gier_labels.specs.Labels.{HasLabels, KeepsOthers, part_of, word_of};
+ghost use Rattle.gier_tree.specs.Complete.{place_of};
 
 use gier_text::Tables;
 

@@ -4,10 +4,11 @@ use Rattle.std.specs.Prelude.{◌&&◌, nat_eq, nat_lt}
 use Rattle.std.proofs.lemmas.Bool.{cases_eq, cases_lt}
 use Rattle.std.proofs.lemmas.Bool.Decides.{nat_tests}
 use Rattle.gier_symbol.specs.declared.symbol.Symbol.{Symbol}
-use Rattle.gier_labels.specs.Labels.{place_of}
-use Rattle.gier_labels.specs.Pieces.{is_placed}
+use Rattle.gier_tree.specs.Complete.{place_of}
+use Rattle.gier_tree.specs.Complete.{is_placed}
 use Rattle.gier_tree.specs.Object.{Piece, APlace, AUse, AWordUse, ARoom, ANeed, ACount, AWord, AnOrder, piece_of, need_behind}
-use Rattle.gier_pass8.specs.Exact.{words_in, open_needs, IsOrderNumber, IsKnown, Suits, AllSuit, IsComplete}
+use Rattle.gier_tree.specs.Words.{words_in}
+use Rattle.gier_tree.specs.Complete.{open_needs, IsOrderNumber, IsKnown, Suits, AllSuit, IsComplete}
 
 both : (a b : Bool) → (a && b) ≡ true → (a ≡ true) × (b ≡ true)
 both true true h = (refl, refl)

@@ -11,7 +11,7 @@ use Rattle.gier_symbol.specs.ByTag.{sym as symbol}
 use Rattle.gier_symbol.specs.Texts.{is_tag_of, stands_in}
 use Rattle.gier_text.specs.TablesModel.{TablesModel}
 use Rattle.gier_text.specs.Outbox.{if_any}
-use Rattle.gier_labels.specs.Pieces.{is_place, is_placed}
+use Rattle.gier_tree.specs.Complete.{is_place, is_placed}
 use Rattle.gier_labels.proofs.Pieces.{by_kind}
 use Rattle.gier_tree.specs.Object.{Piece, APlace, AUse, AWordUse, ARoom, ANeed, ACount, AWord, AnOrder, piece_of, head_of, address_in}
 use Rattle.gier_tree.specs.Object.{words_of, address_at, address_of, need_behind, is_use, is_used, known_order, kept_if}
@@ -20,7 +20,8 @@ use Rattle.gier_pass8.specs.declared.words.Label.TheVariants.{New, Used, At}
 use Rattle.gier_pass8.specs.Words.{sum_of, number_in, with_address}
 use Rattle.gier_pass8.specs.Steps.{known, mark_with, order_with, word_with, last_need, text8_of, place_before}
 use Rattle.gier_pass8.specs.Knowledge.{Knows, with_known, with_label_used, known_behind, needs_of, with_need, without_need, needs_behind}
-use Rattle.gier_pass8.specs.Exact.{words_in, needs_at, open_needs, IsOrderNumber, Suits}
+use Rattle.gier_tree.specs.Words.{words_in}
+use Rattle.gier_tree.specs.Complete.{needs_at, open_needs, IsOrderNumber, Suits}
 use Rattle.gier_pass8.specs.FromTheEnd.{label_state, text8_by, text8_from, HasNeeds, IsWrittenFrom, WritesFromTheEnd}
 use Rattle.gier_pass8.proofs.Needs.{same_self, differs, small_sum, small_alone, bound, filled_is, needs_stay, needs_more, needs_less, need_is, last_by}
 

@@ -14,7 +14,8 @@ use Rattle.gier_tree.specs.Object.{words_of, address_at, address_of, need_at, ne
 use Rattle.gier_pass8.specs.Words.{sum_of, with_address}
 use Rattle.gier_pass8.specs.Steps.{last_need}
 use Rattle.gier_pass8.specs.Knowledge.{needs_of, with_need, without_need}
-use Rattle.gier_pass8.specs.Exact.{words_in, needs_at, open_needs, IsOrderNumber}
+use Rattle.gier_tree.specs.Words.{words_in}
+use Rattle.gier_tree.specs.Complete.{needs_at, open_needs, IsOrderNumber}
 use Rattle.gier_pass8.specs.FromTheEnd.{HasNeeds}
 
 -- Numbers and labels

@@ -7,12 +7,14 @@ use Rattle.std.proofs.lemmas.Bool.{cases_eq, cases_Bool}
 use Rattle.gier_symbol.specs.declared.symbol.Symbol.{Symbol}
 use Rattle.gier_symbol.specs.declared.tag.Tag.TheVariants.{Word}
 use Rattle.gier_symbol.specs.ByTag.{sym as symbol}
-use Rattle.gier_labels.specs.Pieces.{is_place, is_placed}
+use Rattle.gier_tree.specs.Complete.{is_place, is_placed}
 use Rattle.gier_labels.proofs.Pieces.{by_kind}
 use Rattle.gier_tree.specs.Object.{Piece, APlace, AUse, AWordUse, head_of, address_in}
 use Rattle.gier_tree.specs.Object.{words_of, address_at, address_of, need_behind, is_used, known_order, kept_if, in_text8, with_place, known_from, text8_of}
 use Rattle.gier_text.specs.TablesModel.{TablesModel}
-use Rattle.gier_pass8.specs.Exact.{words_in, Suits, AllSuit, WritesText8}
+use Rattle.gier_pass8.specs.Exact.{WritesText8}
+use Rattle.gier_tree.specs.Words.{words_in}
+use Rattle.gier_tree.specs.Complete.{Suits, AllSuit}
 use Rattle.gier_pass8.specs.FromTheEnd.{text8_by, text8_from, WritesFromTheEnd}
 use Rattle.gier_pass8.proofs.Needs.{differs}
 

@@ -1,6 +1,6 @@
 -- The texts 7 of some programs are complete.
 use Rattle.gier_tree.specs.CodeExamples.{code_sums_7, code_loops_7, code_arrays_7, code_calls_7, code_formals_7, code_own_7}
-use Rattle.gier_pass8.specs.Exact.{IsComplete}
+use Rattle.gier_tree.specs.Complete.{IsComplete}
 
 pub record AreComplete : Type 0 where
   pub sums : IsComplete 1000 code_sums_7

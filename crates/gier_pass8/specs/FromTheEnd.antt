@@ -4,13 +4,14 @@ use Rattle.gier_symbol.specs.declared.symbol.Symbol.{Symbol}
 use Rattle.gier_symbol.specs.declared.tag.Tag.TheVariants.{Word}
 use Rattle.gier_symbol.specs.ByTag.{sym}
 use Rattle.gier_text.specs.TablesModel.{TablesModel}
-use Rattle.gier_labels.specs.Pieces.{is_placed}
+use Rattle.gier_tree.specs.Complete.{is_placed}
 use Rattle.gier_tree.specs.Object.{Piece, APlace, AUse, AWordUse, ARoom, ANeed, ACount, piece_of, words_of, need_behind}
 use Rattle.gier_tree.specs.Object.{address_of, is_used, known_order, kept_if}
 use Rattle.gier_pass8.specs.declared.words.Label.{Label}
 use Rattle.gier_pass8.specs.declared.words.Label.TheVariants.{New, Used, At}
 use Rattle.gier_pass8.specs.Knowledge.{Knows, needs_of}
-use Rattle.gier_pass8.specs.Exact.{words_in, open_needs, AllSuit}
+use Rattle.gier_tree.specs.Words.{words_in}
+use Rattle.gier_tree.specs.Complete.{open_needs, AllSuit}
 
 -- what is known of a label by the symbols behind a place
 abbrev pub label_state : (place : ℕ) → (behind : List Symbol) → (label : ℕ) → Label

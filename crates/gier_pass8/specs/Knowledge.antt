@@ -5,7 +5,7 @@ use Rattle.gier_symbol.specs.declared.tag.Tag.TheVariants.{LabelPlace, LabelOrde
 use Rattle.gier_symbol.specs.Texts.{is_tag_of, stands_in}
 use Rattle.gier_text.specs.TablesModel.{TablesModel}
 use Rattle.gier_text.specs.Lists.{TableList, list_at, with_entry, cut_to}
-use Rattle.gier_labels.specs.Labels.{place_of}
+use Rattle.gier_tree.specs.Complete.{place_of}
 use Rattle.gier_pass8.specs.declared.words.Label.{Label}
 use Rattle.gier_pass8.specs.declared.words.Label.TheVariants.{Used, At}
 use Rattle.gier_pass8.specs.Words.{number_in}

@@ -9,8 +9,8 @@ use Rattle.gier_symbol.specs.declared.symbol.Symbol.{Symbol}
 use Rattle.gier_symbol.specs.declared.tag.Tag.TheVariants.{Word}
 use Rattle.gier_symbol.specs.ByTag.{sym as symbol}
 use Rattle.gier_symbol.specs.Texts.{stands_in}
-use Rattle.gier_labels.specs.Labels.{place_of}
-use Rattle.gier_labels.specs.Pieces.{is_place, is_placed}
+use Rattle.gier_tree.specs.Complete.{place_of}
+use Rattle.gier_tree.specs.Complete.{is_place, is_placed}
 use Rattle.gier_tree.specs.Object.{Piece, APlace, AUse, AWordUse, ARoom, ANeed, ACount, AWord, AnOrder, piece_of, head_of, address_in}
 use Rattle.gier_tree.specs.Object.{words_of, address_at, address_of, need_behind, is_use, is_used, known_order, in_text8}
 use Rattle.gier_tree.specs.Object.{with_place, known_from, text8_of, object_word, object_from, object_of}

@@ -8,7 +8,7 @@ use Rattle.gier_symbol.specs.declared.tag.Tag.TheVariants.{LabelPlace}
 use Rattle.gier_symbol.specs.Texts.{is_tag_of}
 use Rattle.gier_text.specs.declared.pass.PassStop.{PassStop}
 use Rattle.gier_text.specs.View.{View, IsLeft}
-use Rattle.gier_labels.specs.Labels.{place_of}
+use Rattle.gier_tree.specs.Complete.{place_of}
 use Rattle.gier_pass9.specs.Words.{room_of}
 use Rattle.gier_pass9.specs.PassOutput.{words_for, words_in, AreLetters}
 use Rattle.gier_pass9.specs.ObjectOfText.{Marks, no_marks, with_mark, word_by, words_with, marks_behind, words_from, object_words, HoldsWords, Makes}

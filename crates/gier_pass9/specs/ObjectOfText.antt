@@ -8,7 +8,8 @@ use Rattle.gier_symbol.specs.Texts.{is_tag_of}
 use Rattle.gier_text.specs.SymbolsOnTracks.{tabulated}
 use Rattle.gier_text.specs.TablesModel.{TablesModel}
 use Rattle.gier_text.specs.View.{View, IsLeft}
-use Rattle.gier_labels.specs.Labels.{place_of, word_of as label_word}
+use Rattle.gier_labels.specs.Labels.{word_of as label_word}
+use Rattle.gier_tree.specs.Complete.{place_of}
 use Rattle.gier_pass9.specs.declared.object.Object.{Object}
 use Rattle.gier_pass9.specs.Object.{tracks_of}
 use Rattle.gier_pass9.specs.Words.{room_of, with_address, order_word}

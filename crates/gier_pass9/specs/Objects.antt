@@ -2,8 +2,8 @@
 use Rattle.std.specs.Prelude.{◌≡◌, ◌<◌, ◌+◌, ◌^◌, ⊤, ℕ, false, List, [], ◌∷◌, All, IsTrue, length}
 use Rattle.gier_symbol.specs.declared.symbol.Symbol.{Symbol}
 use Rattle.gier_symbol.specs.Texts.{stands_in}
-use Rattle.gier_labels.specs.Labels.{place_of}
-use Rattle.gier_labels.specs.Pieces.{is_placed}
+use Rattle.gier_tree.specs.Complete.{place_of}
+use Rattle.gier_tree.specs.Complete.{is_placed}
 use Rattle.gier_tree.specs.Object.{Piece, APlace, ARoom, AnOrder, piece_of, need_behind, text8_of}
 use Rattle.gier_tree.specs.Object.{text8, object_of, code}
 use Rattle.gier_tree.specs.Text7.{text7}

@@ -28,4 +28,6 @@ pub mod Orders
 pub mod Coded
 pub mod Text7
 pub mod Object
+pub mod Words
+pub mod Complete
 pub mod CodeExamples
