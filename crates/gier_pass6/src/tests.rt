@@ -1,71 +1,26 @@
-// The pass driven over short texts, whose symbols are written down by hand.
-ghost use Rattle.gier_symbol.specs.Symbols.{IsSymbol};
+// The pass driven over short texts.
 
 use crate::Pass6;
-use gier_symbol::{Symbol, Tag};
-use gier_text::{FaultKind, ListText, Tables, Text, Way, drive};
+use gier_text::{FaultKind, Tables, Way};
 use std::test::Fail;
+use tool_symbols::writes;
 
 // `-1*2` is 1, 2, the product, and then the sign.
 #[test]
 fn product_before_sign(rt: HostRuntime) -> Result<(), Fail> {
     let mut tables = Tables::open(rt.alloc(), 16)?;
     let mut pass = Pass6::open(&mut tables, 16);
-    let mut input = ListText::open(rt.alloc());
-    let mut output = ListText::open(rt.alloc());
+    let read = "1 leading_minus 2 number=1 3 times 4 number=2 5 text_end";
+    let wanted = "2 number=1 4 number=2 3 operation=times 1 operation=leading_minus ..";
     assert!(rt;
-        input
-            .write_next(&mut (), Symbol::new(Tag::LeadingMinus, 0, 1))
-            .is_ok()
-    );
-    assert!(rt;
-        input
-            .write_next(&mut (), Symbol::new(Tag::Number, 1, 2))
-            .is_ok()
-    );
-    assert!(rt;
-        input
-            .write_next(&mut (), Symbol::new(Tag::Times, 0, 3))
-            .is_ok()
-    );
-    assert!(rt;
-        input
-            .write_next(&mut (), Symbol::new(Tag::Number, 2, 4))
-            .is_ok()
-    );
-    assert!(rt;
-        input
-            .write_next(&mut (), Symbol::new(Tag::TextEnd, 0, 5))
-            .is_ok()
-    );
-    assert!(rt; input.rewind(&mut (), Way::Forward).is_ok());
-    assert!(rt;
-        drive(
+        writes(
+            rt.alloc(),
             &mut pass,
-            &mut (),
-            &mut input,
+            &mut tables,
             Way::Forward,
-            &mut output,
-            &mut tables
+            read,
+            wanted
         )
-        .is_ok()
-    );
-    assert!(rt; output.rewind(&mut (), Way::Forward).is_ok());
-    assert_eq!(rt;
-        output.read_next(&mut ()),
-        Ok(Some(Symbol::new(Tag::Number, 1, 2)))
-    );
-    assert_eq!(rt;
-        output.read_next(&mut ()),
-        Ok(Some(Symbol::new(Tag::Number, 2, 4)))
-    );
-    assert_eq!(rt;
-        output.read_next(&mut ()),
-        Ok(Some(Symbol::new(Tag::Operation, 12, 3)))
-    );
-    assert_eq!(rt;
-        output.read_next(&mut ()),
-        Ok(Some(Symbol::new(Tag::Operation, 61, 1)))
     );
     Ok(())
 }
@@ -75,39 +30,17 @@ fn product_before_sign(rt: HostRuntime) -> Result<(), Fail> {
 fn wrong_operand(rt: HostRuntime) -> Result<(), Fail> {
     let mut tables = Tables::open(rt.alloc(), 16)?;
     let mut pass = Pass6::open(&mut tables, 16);
-    let mut input = ListText::open(rt.alloc());
-    let mut output = ListText::open(rt.alloc());
+    let read = "1 true 2 plus 3 number=1 4 text_end";
+    let wanted = "..";
     assert!(rt;
-        input
-            .write_next(&mut (), Symbol::new(Tag::True, 0, 1))
-            .is_ok()
-    );
-    assert!(rt;
-        input
-            .write_next(&mut (), Symbol::new(Tag::Plus, 0, 2))
-            .is_ok()
-    );
-    assert!(rt;
-        input
-            .write_next(&mut (), Symbol::new(Tag::Number, 1, 3))
-            .is_ok()
-    );
-    assert!(rt;
-        input
-            .write_next(&mut (), Symbol::new(Tag::TextEnd, 0, 4))
-            .is_ok()
-    );
-    assert!(rt; input.rewind(&mut (), Way::Forward).is_ok());
-    assert!(rt;
-        drive(
+        writes(
+            rt.alloc(),
             &mut pass,
-            &mut (),
-            &mut input,
+            &mut tables,
             Way::Forward,
-            &mut output,
-            &mut tables
+            read,
+            wanted
         )
-        .is_ok()
     );
     assert_eq!(rt; tables.faults(), 1);
     assert_eq!(rt; tables.fault(0).kind, FaultKind::Operand);
@@ -121,54 +54,19 @@ fn wrong_operand(rt: HostRuntime) -> Result<(), Fail> {
 fn two_faults_of_a_call(rt: HostRuntime) -> Result<(), Fail> {
     let mut tables = Tables::open(rt.alloc(), 16)?;
     let mut pass = Pass6::open(&mut tables, 16);
-    let mut input = ListText::open(rt.alloc());
-    let mut output = ListText::open(rt.alloc());
+    let read =
+        "1 used=out_cr place 2 left_parenthesis 3 open_mark=actual number=1 shut_mark=actual 4
+         right_parenthesis";
+    let wanted = "..";
     assert!(rt;
-        input
-            .write_next(&mut (), Symbol::new(Tag::Used, 33, 1))
-            .is_ok()
-    );
-    assert!(rt;
-        input
-            .write_next(&mut (), Symbol::new(Tag::Place, 0, 1))
-            .is_ok()
-    );
-    assert!(rt;
-        input
-            .write_next(&mut (), Symbol::new(Tag::LeftParenthesis, 0, 2))
-            .is_ok()
-    );
-    assert!(rt;
-        input
-            .write_next(&mut (), Symbol::new(Tag::OpenMark, 12, 3))
-            .is_ok()
-    );
-    assert!(rt;
-        input
-            .write_next(&mut (), Symbol::new(Tag::Number, 1, 3))
-            .is_ok()
-    );
-    assert!(rt;
-        input
-            .write_next(&mut (), Symbol::new(Tag::ShutMark, 12, 3))
-            .is_ok()
-    );
-    assert!(rt;
-        input
-            .write_next(&mut (), Symbol::new(Tag::RightParenthesis, 0, 4))
-            .is_ok()
-    );
-    assert!(rt; input.rewind(&mut (), Way::Forward).is_ok());
-    assert!(rt;
-        drive(
+        writes(
+            rt.alloc(),
             &mut pass,
-            &mut (),
-            &mut input,
+            &mut tables,
             Way::Forward,
-            &mut output,
-            &mut tables
+            read,
+            wanted
         )
-        .is_ok()
     );
     assert_eq!(rt; tables.faults(), 2);
     assert_eq!(rt; tables.fault(0).kind, FaultKind::Kind);

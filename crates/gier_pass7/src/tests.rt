@@ -1,576 +1,145 @@
-// The pass driven over short programs. Both texts of each are those of a model of the compiler: tag, value and line of each symbol.
-ghost use Rattle.std.specs.Prelude.{◌≡◌, IfOk, IfSome, false, true};
-ghost use Rattle.gier_symbol.specs.Symbols.{IsSymbol};
+// The pass driven over short programs. Both texts of each are those of a model of the compiler.
 
 use crate::Pass7;
-use gier_limits::LINES;
-use gier_symbol::Symbol;
-use gier_text::{ListText, Tables, Text, TextStop, Way, drive};
-use std::alloc::Global;
+use gier_text::{Tables, Way};
 use std::test::Fail;
 
-fn symbol_of(row: (u64, u64, u64)) -> Option<Symbol>
-    ensures { IfSome result IsSymbol }
-{
-    let (tag, value, line) = row;
-    Symbol::decode([tag.saturating_mul(LINES).saturating_add(line), value])
-}
-
-fn text_of(alloc: Global, rows: &[(u64, u64, u64)]) -> Result<ListText, TextStop>
-    ensures { IfOk result (λ text. text.rewound ≡ false) }
-{
-    let mut text = ListText::open(alloc);
-    for at in 0..rows.len() {
-        if let Some(symbol) = symbol_of(rows[at]) {
-            match text.write_next(&mut (), symbol) {
-                Ok(()) => {}
-                Err(stop) => return Err(stop),
-            }
-        }
-    }
-    Ok(text)
-}
-
-// Whether the pass writes these rows for those, of a program of so many bytes, and none behind them.
-fn writes(
-    rt: &HostRuntime,
-    bytes: u32,
-    read: &[(u64, u64, u64)],
-    wanted: &[(u64, u64, u64)],
-) -> Result<bool, Fail> {
+// Whether the pass writes the second text for the first, of a program of so many bytes.
+fn writes(rt: &HostRuntime, bytes: u32, read: &str, wanted: &str) -> Result<bool, Fail> {
     let mut tables = Tables::open(rt.alloc(), 100)?;
     let mut pass = Pass7::open(&mut tables, bytes.min(100));
-    let Ok(mut input) = text_of(rt.alloc(), read) else {
-        return Ok(false);
-    };
-    let mut output = ListText::open(rt.alloc());
-    if input.rewind(&mut (), Way::Forward).is_err() {
-        return Ok(false);
-    }
-    let driven = drive(
+    Ok(tool_symbols::writes(
+        rt.alloc(),
         &mut pass,
-        &mut (),
-        &mut input,
-        Way::Forward,
-        &mut output,
         &mut tables,
-    );
-    if driven.is_err() || output.rewind(&mut (), Way::Forward).is_err() {
-        return Ok(false);
-    }
-    Ok(holds(&mut output, wanted))
-}
-
-fn holds(text: &mut ListText, wanted: &[(u64, u64, u64)]) -> bool
-    requires { text.old.rewound ≡ true }
-{
-    for at in 0..wanted.len() {
-        match text.read_next(&mut ()) {
-            Ok(found) if found == symbol_of(wanted[at]) => {}
-            _ => return false,
-        }
-    }
-    text.read_next(&mut ()) == Ok(None)
+        Way::Forward,
+        read,
+        wanted,
+    ))
 }
 
 // `_begin _integer i; _for i:=1 _step i _until 9 _do _end`
-static STEP: [(u64, u64, u64); 31] = [
-    (67, 1, 1),
-    (67, 2, 1),
-    (69, 8, 1),
-    (70, 1, 1),
-    (36, 0, 1),
-    (67, 4, 1),
-    (47, 0, 1),
-    (63, 8, 1),
-    (68, 4, 1),
-    (30, 0, 1),
-    (67, 9, 2),
-    (41, 0, 2),
-    (71, 1, 2),
-    (72, 33554435, 2),
-    (31, 0, 2),
-    (67, 16, 2),
-    (4, 1, 2),
-    (42, 0, 2),
-    (71, 1, 2),
-    (72, 33554435, 2),
-    (43, 0, 2),
-    (4, 9, 2),
-    (68, 16, 2),
-    (45, 0, 2),
-    (67, 10, 2),
-    (68, 10, 2),
-    (68, 9, 2),
-    (37, 0, 2),
-    (68, 2, 2),
-    (68, 1, 2),
-    (8, 0, 2),
-];
+const STEP: &str =
+    "1 open_mark=program open_mark=block entry=8 description=integer_variable begin open_mark=type_declaration
+     integer declaring=8 shut_mark=type_declaration semicolon 2 open_mark=for_statement for
+     used=integer_variable place=2.3 becomes open_mark=for_element number=1 step used=integer_variable
+     place=2.3 until number=9 shut_mark=for_element do open_mark=controlled_statement
+     shut_mark=controlled_statement shut_mark=for_statement end shut_mark=block shut_mark=program text_end";
 
-static STEP_CODE: [(u64, u64, u64); 37] = [
-    (124, 4311744515, 1),
-    (124, 133177540612, 1),
-    (135, 33554435, 2),
-    (134, 5, 2),
-    (132, 1, 2),
-    (137, 5, 2),
-    (122, 115972505600, 2),
-    (121, 8388609, 2),
-    (135, 33554435, 2),
-    (134, 5, 2),
-    (131, 33554435, 2),
-    (134, 6, 2),
-    (131, 33554435, 2),
-    (138, 6, 2),
-    (137, 5, 2),
-    (121, 8388608, 2),
-    (131, 33554435, 2),
-    (134, 5, 2),
-    (132, 9, 2),
-    (139, 5, 2),
-    (134, 5, 2),
-    (131, 33554435, 2),
-    (157, 5, 2),
-    (122, 120267472898, 2),
-    (122, 17188257793, 2),
-    (134, 4, 2),
-    (122, 115972505603, 2),
-    (121, 8388610, 2),
-    (122, 115972505604, 2),
-    (121, 8388611, 2),
-    (158, 4, 2),
-    (121, 8388612, 2),
-    (160, 0, 1),
-    (125, 3, 1),
-    (130, 0, 1),
-    (125, 0, 1),
-    (126, 29, 1),
-];
+const STEP_CODE: &str =
+    "1 open_room=START.1.3 open_room=BLOCK.2.4 2 ADDR=2.3 KEEP=5 SHORT=1 PUT=5 label_order=JUMP.0.8388608
+     label_place=8388609 ADDR=2.3 KEEP=5 TAKE=2.3 KEEP=6 TAKE=2.3 ADD=6 PUT=5 label_place=8388608 TAKE=2.3
+     KEEP=5 SHORT=9 SUB=5 KEEP=5 TAKE=2.3 TEST=5 label_order=FALSE.0.8388610 label_order=SHORT.0.8388609 KEEP=4
+     label_order=JUMP.0.8388611 label_place=8388610 label_order=JUMP.0.8388612 label_place=8388611 TURN=4
+     label_place=8388612 1 LEAVE need=3 STOP need object_words=29";
 
 // The expression behind `_step` is coded twice: for the sum before a turn, and for the test.
 #[test]
 fn step_expression_evaluated_once(rt: HostRuntime) -> Result<(), Fail> {
-    assert!(rt; writes(&rt, 54, &STEP, &STEP_CODE)?);
+    assert!(rt; writes(&rt, 54, STEP, STEP_CODE)?);
     Ok(())
 }
 
 // `_begin _integer i; _for i:=1 _while _true _do _end`
-static WHILE: [(u64, u64, u64); 28] = [
-    (67, 1, 1),
-    (67, 2, 1),
-    (69, 8, 1),
-    (70, 1, 1),
-    (36, 0, 1),
-    (67, 4, 1),
-    (47, 0, 1),
-    (63, 8, 1),
-    (68, 4, 1),
-    (30, 0, 1),
-    (67, 9, 2),
-    (41, 0, 2),
-    (71, 1, 2),
-    (72, 33554435, 2),
-    (31, 0, 2),
-    (67, 16, 2),
-    (4, 1, 2),
-    (44, 0, 2),
-    (26, 0, 3),
-    (68, 16, 3),
-    (45, 0, 3),
-    (67, 10, 3),
-    (68, 10, 3),
-    (68, 9, 3),
-    (37, 0, 3),
-    (68, 2, 3),
-    (68, 1, 3),
-    (8, 0, 3),
-];
+const WHILE: &str =
+    "1 open_mark=program open_mark=block entry=8 description=integer_variable begin open_mark=type_declaration
+     integer declaring=8 shut_mark=type_declaration semicolon 2 open_mark=for_statement for
+     used=integer_variable place=2.3 becomes open_mark=for_element number=1 while 3 true shut_mark=for_element
+     do open_mark=controlled_statement shut_mark=controlled_statement shut_mark=for_statement end
+     shut_mark=block shut_mark=program text_end";
 
-static WHILE_CODE: [(u64, u64, u64); 22] = [
-    (124, 4311744515, 1),
-    (124, 133177540612, 1),
-    (121, 8388608, 1),
-    (135, 33554435, 2),
-    (134, 5, 2),
-    (132, 1, 2),
-    (137, 5, 2),
-    (132, 1, 3),
-    (122, 120267472897, 2),
-    (122, 17188257792, 2),
-    (134, 4, 2),
-    (122, 115972505602, 2),
-    (121, 8388609, 2),
-    (122, 115972505603, 2),
-    (121, 8388610, 2),
-    (158, 4, 2),
-    (121, 8388611, 2),
-    (160, 0, 1),
-    (125, 2, 1),
-    (130, 0, 1),
-    (125, 0, 1),
-    (126, 15, 1),
-];
+const WHILE_CODE: &str =
+    "1 open_room=START.1.3 open_room=BLOCK.2.4 label_place=8388608 2 ADDR=2.3 KEEP=5 SHORT=1 PUT=5 3 SHORT=1 2
+     label_order=FALSE.0.8388609 label_order=SHORT.0.8388608 KEEP=4 label_order=JUMP.0.8388610
+     label_place=8388609 label_order=JUMP.0.8388611 label_place=8388610 TURN=4 label_place=8388611 1 LEAVE
+     need=2 STOP need object_words=15";
 
 // The label of a while element stands before its first expression.
 #[test]
 fn while_element(rt: HostRuntime) -> Result<(), Fail> {
-    assert!(rt; writes(&rt, 50, &WHILE, &WHILE_CODE)?);
+    assert!(rt; writes(&rt, 50, WHILE, WHILE_CODE)?);
     Ok(())
 }
 
 // `_begin _switch s:= L, s[1]; L: _end`
-static SWITCH: [(u64, u64, u64); 32] = [
-    (67, 1, 1),
-    (67, 2, 1),
-    (69, 8, 1),
-    (70, 6, 1),
-    (69, 9, 1),
-    (70, 5, 1),
-    (36, 0, 1),
-    (67, 6, 1),
-    (50, 0, 1),
-    (63, 8, 1),
-    (31, 0, 1),
-    (67, 15, 2),
-    (71, 5, 2),
-    (72, 33554433, 2),
-    (68, 15, 2),
-    (28, 0, 2),
-    (67, 15, 2),
-    (71, 6, 2),
-    (72, 33554432, 2),
-    (67, 13, 2),
-    (4, 1, 2),
-    (68, 13, 2),
-    (75, 1, 2),
-    (68, 15, 2),
-    (68, 6, 2),
-    (30, 0, 2),
-    (63, 9, 3),
-    (62, 0, 3),
-    (37, 0, 3),
-    (68, 2, 3),
-    (68, 1, 3),
-    (8, 0, 3),
-];
+const SWITCH: &str =
+    "1 open_mark=program open_mark=block entry=8 description=switch entry=9 description=label begin
+     open_mark=switch_declaration switch declaring=8 becomes 2 open_mark=switch_element used=label place=2.1
+     shut_mark=switch_element comma open_mark=switch_element used=switch place=2.0 open_mark=subscript number=1
+     shut_mark=subscript subscripted=1 shut_mark=switch_element shut_mark=switch_declaration semicolon 3
+     declaring=9 label_colon end shut_mark=block shut_mark=program text_end";
 
-static SWITCH_CODE: [(u64, u64, u64); 25] = [
-    (124, 4311744515, 1),
-    (124, 133177540611, 1),
-    (122, 115972505600, 1),
-    (121, 0, 1),
-    (120, 2, 1),
-    (123, 8388609, 1),
-    (123, 8388610, 1),
-    (121, 8388609, 1),
-    (124, 167537278981, 2),
-    (122, 210486951937, 2),
-    (172, 0, 2),
-    (125, 0, 2),
-    (121, 8388610, 2),
-    (124, 167537278981, 2),
-    (132, 1, 2),
-    (122, 201897017344, 2),
-    (172, 0, 2),
-    (125, 0, 2),
-    (121, 8388608, 2),
-    (121, 1, 2),
-    (160, 0, 1),
-    (125, 0, 1),
-    (130, 0, 1),
-    (125, 0, 1),
-    (126, 15, 1),
-];
+const SWITCH_CODE: &str =
+    "1 open_room=START.1.3 open_room=BLOCK.2.3 label_order=JUMP.0.8388608 label_place word=2 label_word=8388609
+     label_word=8388610 label_place=8388609 2 open_room=THUNK.2.5 label_order=LAB.2.1 BACK need
+     label_place=8388610 open_room=THUNK.2.5 SHORT=1 label_order=SWITCH.2.0 BACK need label_place=8388608
+     label_place=1 1 LEAVE need STOP need object_words=15";
 
 // The number of elements and their labels stand before the elements.
 #[test]
 fn switch_before_its_elements(rt: HostRuntime) -> Result<(), Fail> {
-    assert!(rt; writes(&rt, 35, &SWITCH, &SWITCH_CODE)?);
+    assert!(rt; writes(&rt, 35, SWITCH, SWITCH_CODE)?);
     Ok(())
 }
 
 // `_begin _procedure p(f); _procedure f; f(1, p); p(p) _end`
-static FORMAL_CALL: [(u64, u64, u64); 46] = [
-    (67, 1, 1),
-    (67, 2, 1),
-    (69, 8, 1),
-    (70, 7, 1),
-    (70, 20, 1),
-    (36, 0, 1),
-    (67, 7, 1),
-    (69, 9, 1),
-    (70, 20, 1),
-    (51, 0, 1),
-    (63, 8, 1),
-    (32, 0, 1),
-    (64, 9, 1),
-    (33, 0, 1),
-    (30, 0, 1),
-    (51, 0, 1),
-    (66, 9, 1),
-    (30, 0, 1),
-    (67, 8, 2),
-    (71, 20, 2),
-    (72, 50331653, 2),
-    (67, 12, 2),
-    (4, 1, 2),
-    (68, 12, 2),
-    (67, 12, 2),
-    (71, 7, 2),
-    (72, 33554432, 2),
-    (73, 1, 2),
-    (68, 12, 2),
-    (76, 2, 2),
-    (68, 8, 2),
-    (68, 7, 2),
-    (30, 0, 2),
-    (71, 7, 2),
-    (72, 33554432, 2),
-    (73, 1, 2),
-    (67, 12, 2),
-    (71, 7, 2),
-    (72, 33554432, 2),
-    (73, 1, 2),
-    (68, 12, 2),
-    (76, 1, 2),
-    (37, 0, 2),
-    (68, 2, 2),
-    (68, 1, 2),
-    (8, 0, 2),
-];
+const FORMAL_CALL: &str =
+    "1 open_mark=program open_mark=block entry=8 description=procedure description=procedure_formal begin
+     open_mark=procedure_declaration entry=9 description=procedure_formal procedure declaring=8
+     left_parenthesis formal=9 right_parenthesis semicolon procedure specified=9 semicolon 2
+     open_mark=procedure_body used=procedure_formal place=3.5 open_mark=actual number=1 shut_mark=actual
+     open_mark=actual used=procedure place=2.0 count=1 shut_mark=actual called=2 shut_mark=procedure_body
+     shut_mark=procedure_declaration semicolon used=procedure place=2.0 count=1 open_mark=actual used=procedure
+     place=2.0 count=1 shut_mark=actual called=1 end shut_mark=block shut_mark=program text_end";
 
-static FORMAL_CALL_CODE: [(u64, u64, u64); 56] = [
-    (124, 4311744515, 1),
-    (124, 133177540611, 1),
-    (122, 115972505600, 1),
-    (121, 0, 1),
-    (124, 150374187015, 1),
-    (120, 2, 1),
-    (181, 50331653, 2),
-    (120, 2, 2),
-    (120, 249108103168, 2),
-    (122, 115972505601, 2),
-    (121, 8388610, 2),
-    (124, 167503724549, 2),
-    (132, 1, 2),
-    (172, 0, 2),
-    (125, 0, 2),
-    (121, 8388609, 2),
-    (122, 17188257794, 2),
-    (134, 7, 2),
-    (179, 0, 2),
-    (134, 8, 2),
-    (122, 115972505603, 2),
-    (121, 8388612, 2),
-    (122, 223355076608, 2),
-    (120, 687194767360, 2),
-    (121, 8388611, 2),
-    (122, 17188257796, 2),
-    (134, 9, 2),
-    (179, 33554432, 2),
-    (134, 10, 2),
-    (132, 1, 2),
-    (182, 50331653, 2),
-    (122, 120267472901, 2),
-    (168, 50331655, 2),
-    (134, 7, 2),
-    (121, 8388613, 2),
-    (132, 7, 2),
-    (183, 50331653, 2),
-    (166, 0, 1),
-    (125, 4, 1),
-    (121, 8388608, 1),
-    (122, 115972505606, 2),
-    (121, 8388615, 2),
-    (122, 223355076608, 2),
-    (120, 687194767360, 2),
-    (121, 8388614, 2),
-    (122, 17188257799, 2),
-    (134, 3, 2),
-    (179, 33554432, 2),
-    (134, 4, 2),
-    (132, 3, 2),
-    (122, 154652377088, 2),
-    (160, 0, 1),
-    (125, 2, 1),
-    (130, 0, 1),
-    (125, 0, 1),
-    (126, 42, 1),
-];
+const FORMAL_CALL_CODE: &str =
+    "1 open_room=START.1.3 open_room=BLOCK.2.3 label_order=JUMP.0.8388608 label_place open_room=PROC.3.7 word=2
+     2 AGREE=3.5 word=2 word=249108103168 label_order=JUMP.0.8388609 label_place=8388610 open_room=THUNK.0.5
+     SHORT=1 BACK need label_place=8388609 label_order=SHORT.0.8388610 KEEP=7 BASE KEEP=8
+     label_order=JUMP.0.8388611 label_place=8388612 label_order=KINDS.1.0 word=687194767360 label_place=8388611
+     label_order=SHORT.0.8388612 KEEP=9 BASE=2.0 KEEP=10 SHORT=1 BYVAL=3.5 label_order=FALSE.0.8388613
+     VALUE=3.7 KEEP=7 label_place=8388613 SHORT=7 CALLF=3.5 1 RETURN need=4 label_place=8388608 2
+     label_order=JUMP.0.8388614 label_place=8388615 label_order=KINDS.1.0 word=687194767360 label_place=8388614
+     label_order=SHORT.0.8388615 KEEP=3 BASE=2.0 KEEP=4 SHORT=3 label_order=CALL.2.0 1 LEAVE need=2 STOP need
+     object_words=42";
 
 // Number and kinds of the actuals stand before them, and an integer actual is evaluated where its formal is by value.
 #[test]
 fn formal_call(rt: HostRuntime) -> Result<(), Fail> {
-    assert!(rt; writes(&rt, 56, &FORMAL_CALL, &FORMAL_CALL_CODE)?);
+    assert!(rt; writes(&rt, 56, FORMAL_CALL, FORMAL_CALL_CODE)?);
     Ok(())
 }
 
 // `_begin _integer _array a[1:2]; _procedure p(x); _integer x; x:=a[1]+2; p(a[2]); p(a[1]+1) _end`
-static ELEMENT: [(u64, u64, u64); 85] = [
-    (67, 1, 1),
-    (67, 2, 1),
-    (69, 8, 1),
-    (70, 3, 1),
-    (73, 1, 1),
-    (69, 9, 1),
-    (70, 7, 1),
-    (70, 13, 1),
-    (36, 0, 1),
-    (47, 0, 1),
-    (49, 0, 1),
-    (67, 5, 1),
-    (63, 8, 1),
-    (34, 0, 1),
-    (67, 14, 1),
-    (4, 1, 1),
-    (68, 14, 1),
-    (29, 0, 1),
-    (67, 14, 1),
-    (4, 2, 1),
-    (68, 14, 1),
-    (35, 0, 1),
-    (68, 5, 1),
-    (30, 0, 1),
-    (67, 7, 2),
-    (69, 10, 2),
-    (70, 13, 2),
-    (51, 0, 2),
-    (63, 9, 2),
-    (32, 0, 2),
-    (64, 10, 2),
-    (33, 0, 2),
-    (30, 0, 2),
-    (47, 0, 2),
-    (66, 10, 2),
-    (30, 0, 2),
-    (67, 8, 2),
-    (71, 13, 2),
-    (72, 50331653, 2),
-    (31, 0, 2),
-    (71, 3, 2),
-    (72, 33554435, 2),
-    (73, 1, 2),
-    (67, 13, 2),
-    (4, 1, 2),
-    (68, 13, 2),
-    (75, 1, 2),
-    (4, 2, 2),
-    (74, 10, 2),
-    (68, 8, 2),
-    (68, 7, 2),
-    (30, 0, 2),
-    (71, 7, 3),
-    (72, 33554432, 3),
-    (73, 1, 3),
-    (67, 12, 3),
-    (71, 3, 3),
-    (72, 33554435, 3),
-    (73, 1, 3),
-    (67, 13, 3),
-    (4, 2, 3),
-    (68, 13, 3),
-    (75, 1, 3),
-    (68, 12, 3),
-    (76, 1, 3),
-    (30, 0, 3),
-    (71, 7, 3),
-    (72, 33554432, 3),
-    (73, 1, 3),
-    (67, 12, 3),
-    (71, 3, 3),
-    (72, 33554435, 3),
-    (73, 1, 3),
-    (67, 13, 3),
-    (4, 1, 3),
-    (68, 13, 3),
-    (75, 1, 3),
-    (4, 1, 3),
-    (74, 10, 3),
-    (68, 12, 3),
-    (76, 1, 3),
-    (37, 0, 3),
-    (68, 2, 3),
-    (68, 1, 3),
-    (8, 0, 3),
-];
+const ELEMENT: &str =
+    "1 open_mark=program open_mark=block entry=8 description=integer_array count=1 entry=9
+     description=procedure description=integer_formal begin integer array open_mark=array_segment declaring=8
+     left_bracket open_mark=bound number=1 shut_mark=bound colon open_mark=bound number=2 shut_mark=bound
+     right_bracket shut_mark=array_segment semicolon 2 open_mark=procedure_declaration entry=10
+     description=integer_formal procedure declaring=9 left_parenthesis formal=10 right_parenthesis semicolon
+     integer specified=10 semicolon open_mark=procedure_body used=integer_formal place=3.5 becomes
+     used=integer_array place=2.3 count=1 open_mark=subscript number=1 shut_mark=subscript subscripted=1
+     number=2 operation=plus shut_mark=procedure_body shut_mark=procedure_declaration semicolon 3
+     used=procedure place=2.0 count=1 open_mark=actual used=integer_array place=2.3 count=1 open_mark=subscript
+     number=2 shut_mark=subscript subscripted=1 shut_mark=actual called=1 semicolon used=procedure place=2.0
+     count=1 open_mark=actual used=integer_array place=2.3 count=1 open_mark=subscript number=1
+     shut_mark=subscript subscripted=1 number=1 operation=plus shut_mark=actual called=1 end shut_mark=block
+     shut_mark=program text_end";
 
-static ELEMENT_CODE: [(u64, u64, u64); 70] = [
-    (124, 4311744515, 1),
-    (124, 133177540615, 1),
-    (132, 1, 1),
-    (134, 7, 1),
-    (132, 2, 1),
-    (134, 8, 1),
-    (132, 7, 1),
-    (161, 16777219, 1),
-    (122, 115972505600, 2),
-    (121, 0, 2),
-    (124, 150374187015, 2),
-    (120, 2, 2),
-    (169, 50331653, 2),
-    (134, 7, 2),
-    (135, 33554435, 2),
-    (134, 8, 2),
-    (132, 1, 2),
-    (134, 9, 2),
-    (162, 16777224, 2),
-    (136, 0, 2),
-    (134, 8, 2),
-    (132, 2, 2),
-    (138, 8, 2),
-    (137, 7, 2),
-    (166, 0, 2),
-    (125, 3, 2),
-    (121, 8388608, 2),
-    (122, 115972505601, 3),
-    (121, 8388610, 3),
-    (124, 167520501765, 3),
-    (135, 33554435, 3),
-    (134, 5, 3),
-    (132, 2, 3),
-    (134, 6, 3),
-    (162, 16777221, 3),
-    (173, 0, 3),
-    (125, 2, 3),
-    (121, 8388609, 3),
-    (122, 17188257794, 3),
-    (134, 7, 3),
-    (179, 0, 3),
-    (134, 8, 3),
-    (132, 7, 3),
-    (122, 154652377088, 3),
-    (122, 115972505603, 3),
-    (121, 8388612, 3),
-    (124, 167503724549, 3),
-    (135, 33554435, 3),
-    (134, 5, 3),
-    (132, 1, 3),
-    (134, 6, 3),
-    (162, 16777221, 3),
-    (136, 0, 3),
-    (134, 5, 3),
-    (132, 1, 3),
-    (138, 5, 3),
-    (172, 0, 3),
-    (125, 2, 3),
-    (121, 8388611, 3),
-    (122, 17188257796, 3),
-    (134, 7, 3),
-    (179, 0, 3),
-    (134, 8, 3),
-    (132, 7, 3),
-    (122, 154652377088, 3),
-    (160, 0, 1),
-    (125, 2, 1),
-    (130, 0, 1),
-    (125, 0, 1),
-    (126, 58, 1),
-];
+const ELEMENT_CODE: &str =
+    "1 open_room=START.1.3 open_room=BLOCK.2.7 SHORT=1 KEEP=7 SHORT=2 KEEP=8 SHORT=7 ARRAY=1.3 2
+     label_order=JUMP.0.8388608 label_place open_room=PROC.3.7 word=2 PLACE=3.5 KEEP=7 ADDR=2.3 KEEP=8 SHORT=1
+     KEEP=9 INDEX=1.8 FETCH KEEP=8 SHORT=2 ADD=8 PUT=7 RETURN need=3 label_place=8388608 3
+     label_order=JUMP.0.8388609 label_place=8388610 open_room=THUNK.1.5 ADDR=2.3 KEEP=5 SHORT=2 KEEP=6
+     INDEX=1.5 GIVE need=2 label_place=8388609 label_order=SHORT.0.8388610 KEEP=7 BASE KEEP=8 SHORT=7
+     label_order=CALL.2.0 label_order=JUMP.0.8388611 label_place=8388612 open_room=THUNK.0.5 ADDR=2.3 KEEP=5
+     SHORT=1 KEEP=6 INDEX=1.5 FETCH KEEP=5 SHORT=1 ADD=5 BACK need=2 label_place=8388611
+     label_order=SHORT.0.8388612 KEEP=7 BASE KEEP=8 SHORT=7 label_order=CALL.2.0 1 LEAVE need=2 STOP need
+     object_words=58";
 
 // An array element alone as an actual by name is a variable, and one in a sum is an expression.
 #[test]
 fn element_as_actual(rt: HostRuntime) -> Result<(), Fail> {
-    assert!(rt; writes(&rt, 94, &ELEMENT, &ELEMENT_CODE)?);
+    assert!(rt; writes(&rt, 94, ELEMENT, ELEMENT_CODE)?);
     Ok(())
 }

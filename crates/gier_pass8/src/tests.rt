@@ -1,55 +1,27 @@
 // The pass driven over short texts, whose symbols are written down by hand.
-ghost use Rattle.gier_symbol.specs.Symbols.{IsSymbol};
 
 use crate::Pass8;
-use gier_symbol::{Symbol, Tag};
-use gier_text::{ListText, Tables, Text, Way, drive};
+use gier_text::{Tables, Way};
 use std::test::Fail;
+use tool_symbols::writes;
 
 // START with level 1 and an open room of 3, a need of 4 and STOP: the room is 7.
 #[test]
 fn room_with_need(rt: HostRuntime) -> Result<(), Fail> {
     let mut tables = Tables::open(rt.alloc(), 16)?;
     let mut pass = Pass8::open(&mut tables, 16);
-    let mut input = ListText::open(rt.alloc());
-    let mut output = ListText::open(rt.alloc());
+    let read = "1 open_room=START.1.3 need=4 object_words=1";
+    let wanted = "1 START=1.7";
     assert!(rt;
-        input
-            .write_next(&mut (), Symbol::new(Tag::OpenRoom, 4311744515, 1))
-            .is_ok()
-    );
-    assert!(rt;
-        input
-            .write_next(&mut (), Symbol::new(Tag::Need, 4, 1))
-            .is_ok()
-    );
-    assert!(rt;
-        input
-            .write_next(&mut (), Symbol::new(Tag::ObjectWords, 1, 1))
-            .is_ok()
-    );
-    assert!(rt; input.rewind(&mut (), Way::Backward).is_ok());
-    assert!(rt;
-        drive(
+        writes(
+            rt.alloc(),
             &mut pass,
-            &mut (),
-            &mut input,
+            &mut tables,
             Way::Backward,
-            &mut output,
-            &mut tables
+            read,
+            wanted
         )
-        .is_ok()
     );
-    assert!(rt; output.rewind(&mut (), Way::Backward).is_ok());
-    assert_eq!(rt;
-        output.read_next(&mut ()),
-        Ok(Some(Symbol {
-            tag: 129,
-            value: 16777223,
-            line: 1
-        }))
-    );
-    assert_eq!(rt; output.read_next(&mut ()), Ok(None));
     Ok(())
 }
 
@@ -58,53 +30,17 @@ fn room_with_need(rt: HostRuntime) -> Result<(), Fail> {
 fn forward_jump(rt: HostRuntime) -> Result<(), Fail> {
     let mut tables = Tables::open(rt.alloc(), 16)?;
     let mut pass = Pass8::open(&mut tables, 16);
-    let mut input = ListText::open(rt.alloc());
-    let mut output = ListText::open(rt.alloc());
+    let read = "3 label_order=JUMP.0.0 4 word=77 label_place object_words=2";
+    let wanted = "3 JUMP=2 4 word=77";
     assert!(rt;
-        input
-            .write_next(&mut (), Symbol::new(Tag::LabelOrder, 115964116992, 3))
-            .is_ok()
-    );
-    assert!(rt;
-        input
-            .write_next(&mut (), Symbol::new(Tag::Word, 77, 4))
-            .is_ok()
-    );
-    assert!(rt;
-        input
-            .write_next(&mut (), Symbol::new(Tag::LabelPlace, 0, 4))
-            .is_ok()
-    );
-    assert!(rt;
-        input
-            .write_next(&mut (), Symbol::new(Tag::ObjectWords, 2, 4))
-            .is_ok()
-    );
-    assert!(rt; input.rewind(&mut (), Way::Backward).is_ok());
-    assert!(rt;
-        drive(
+        writes(
+            rt.alloc(),
             &mut pass,
-            &mut (),
-            &mut input,
+            &mut tables,
             Way::Backward,
-            &mut output,
-            &mut tables
+            read,
+            wanted
         )
-        .is_ok()
     );
-    assert!(rt; output.rewind(&mut (), Way::Backward).is_ok());
-    assert_eq!(rt;
-        output.read_next(&mut ()),
-        Ok(Some(Symbol {
-            tag: 155,
-            value: 2,
-            line: 3
-        }))
-    );
-    assert_eq!(rt;
-        output.read_next(&mut ()),
-        Ok(Some(Symbol::new(Tag::Word, 77, 4)))
-    );
-    assert_eq!(rt; output.read_next(&mut ()), Ok(None));
     Ok(())
 }
