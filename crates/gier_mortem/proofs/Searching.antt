@@ -9,7 +9,8 @@ use Rattle.gier_text.specs.SymbolsOnTracks.{symbols_of, all_symbols, text_on}
 use Rattle.gier_text.specs.Own.{found_on}
 use Rattle.gier_text.specs.View.{LeftFrom, IsLeftIn, OrdersLeft}
 use Rattle.gier_mortem.specs.declared.lines.Asked.{Asked}
-use Rattle.gier_mortem.specs.WordLines.{is_word, word_lines, addresses, greatest, told_line, AreFound, AreFoundBelow, Searched}
+use Rattle.gier_tree.specs.WordLines.{is_word, word_lines}
+use Rattle.gier_mortem.specs.WordLines.{addresses, greatest, told_line, AreFound, AreFoundBelow, Searched}
 
 -- lines of words
 

@@ -1,21 +1,11 @@
--- Which symbols of the text of orders are words of the object, and what is found of the words that were asked for.
-use Rattle.std.specs.Prelude.{◌≡◌, ◌==◌, ◌&&◌, ◌<◌, ◌≤◌, ℕ, Bool, not, if◌then◌else◌, List, [], ◌∷◌, ◌++◌, length, map, max}
+-- What is found of the words that were asked for, whose lines are those of the text of orders.
+use Rattle.std.specs.Prelude.{◌≡◌, ◌==◌, ◌<◌, ◌≤◌, ℕ, if◌then◌else◌, List, [], ◌∷◌, ◌++◌, length, map, max}
 use Rattle.std.specs.Prelude.{Option, Some, Result, Ok, Err, ⊤, slice_get, All}
 use Rattle.gier_symbol.specs.declared.symbol.Symbol.{Symbol}
-use Rattle.gier_symbol.specs.declared.tag.Tag.TheVariants.{LabelPlace, Need, ObjectWords}
-use Rattle.gier_symbol.specs.Tags.{number_of}
+use Rattle.gier_tree.specs.WordLines.{word_lines}
 use Rattle.gier_mortem.specs.declared.lines.Asked.{Asked}
 use Rattle.gier_mortem.specs.declared.stop.LineStop.{LineStop}
 use Rattle.gier_mortem.specs.declared.stop.LineStop.TheVariants.{Drum, Spoilt}
-
--- a mark of a label, what an activation needs and the number of words are no words of the object
-abbrev pub is_word : ℕ → Bool
-is_word tag = not (tag == number_of LabelPlace) && (not (tag == number_of Need) && not (tag == number_of ObjectWords))
-
--- the lines of the words, in order
-abbrev pub word_lines : List Symbol → List ℕ
-word_lines [] = []
-word_lines (s ∷ ss) = if is_word s.tag then s.line ∷ word_lines ss else word_lines ss
 
 abbrev pub addresses : List Asked → List ℕ
 addresses asked = map (λ (a : Asked). a.address) asked

@@ -3,7 +3,8 @@ ghost use Rattle.std.specs.Prelude.{◌≡◌, ◌<◌, ◌≤◌, ◌+◌, IsEr
 ghost use Rattle.gier_word.specs.Cause.{HasRisen};
 ghost use Rattle.gier_text.specs.SymbolsOnTracks.{tracks_for, text_on};
 ghost use Rattle.gier_text.specs.View.{KeepsTracks};
-ghost use Rattle.gier_mortem.specs.WordLines.{is_word, addresses, Finds, SpoiltIfShort};
+ghost use Rattle.gier_tree.specs.WordLines.{is_word};
+ghost use Rattle.gier_mortem.specs.WordLines.{addresses, Finds, SpoiltIfShort};
 ghost use Rattle.gier_symbol.specs.declared.symbol.Symbol.{Symbol};
 ghost use Rattle.gier_mortem.specs.Stops.{IsSpoilt};
 ghost use Rattle.gier_mortem.specs.declared.stop.LineStop.TheVariants.{Drum as DrumFailed};

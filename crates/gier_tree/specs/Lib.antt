@@ -31,3 +31,5 @@ pub mod Object
 pub mod Words
 pub mod Complete
 pub mod CodeExamples
+pub mod WordLines
+pub mod LineExamples

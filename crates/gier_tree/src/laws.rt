@@ -2,6 +2,7 @@
 ghost use Rattle.gier_tree.specs.Structure.{IsUnique};
 ghost use Rattle.gier_tree.specs.CodeExamples.{AreCoded};
 ghost use Rattle.gier_tree.specs.HoistExamples.{AreHoisted};
+ghost use Rattle.gier_tree.specs.LineExamples.{AreLines};
 ghost use Rattle.gier_tree.specs.RoomExamples.{AreRoomy};
 ghost use Rattle.gier_tree.specs.SpellExamples.{AreSpelled};
 ghost use Rattle.gier_tree.specs.StructureExamples.{AreStructured};
@@ -40,4 +41,9 @@ pub fn law_texts()
 /// The texts 7 and 8 and the objects of programs, by example.
 pub fn law_code()
     ensures { AreCoded }
+{}
+
+/// The lines of the words of programs, and where these words stand in text 7, by example.
+pub fn law_word_lines()
+    ensures { AreLines }
 {}

@@ -9,6 +9,7 @@ pub use construct::Construct;
 pub use kind::Kind;
 pub use laws::{
     law_code, law_hoisted, law_rooms, law_spelling, law_structured, law_texts, law_unique,
+    law_word_lines,
 };
 
 #[cfg(test)]
