@@ -14,11 +14,11 @@ use Rattle.gier_text.specs.Log.{LogsAll}
 use Rattle.gier_text.specs.Own.{own_view}
 use Rattle.gier_text.specs.declared.text.Way.TheVariants.{Backward}
 use Rattle.gier_text.specs.View.{View, KeepsTracks, SameTracks, OrdersLeft}
-use Rattle.gier_pass7.specs.Invariant.{IsShort as IsShortSeven}
+use Rattle.gier_text.specs.Potential.{IsShort}
 use Rattle.gier_limits.specs.Areas.{longest}
 use Rattle.gier_pass8.specs.Exact.{WritesText8}
 use Rattle.gier_tree.specs.Complete.{IsComplete}
-use Rattle.gier_pass8.specs.Invariant.{IsShort, Relates}
+use Rattle.gier_pass8.specs.Invariant.{Relates}
 use Rattle.gier_pass9.specs.ObjectOfText.{object_words, HoldsWords, Makes}
 use Rattle.gier_pass9.specs.Objects.{IsText7}
 use Rattle.gier_pass9.proofs.Objects.{same_words}
@@ -58,7 +58,7 @@ changes_of first to end entries old new le room tracks logged later = record {
 }
 
 -- what pass 7 writes is meant for pass 8, backward
-pub short_back : (text bytes : ℕ) (list : List Symbol) → IsShortSeven text bytes list → IsShort text bytes (reverse list)
+pub short_back : (text bytes : ℕ) (list : List Symbol) → IsShort text bytes list → IsShort text bytes (reverse list)
 short_back text bytes list h = record {
   letters = λ k d lt.
       let within : k < length list = omega (arith, lt, length-reverse list) in

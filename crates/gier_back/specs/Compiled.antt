@@ -6,9 +6,8 @@ use Rattle.gier_word.specs.declared.refusal.Odd.{Odd}
 use Rattle.gier_limits.specs.Areas.{longest, first_of, object_first, words_of, capacity_of}
 use Rattle.gier_text.specs.declared.fronted.Fronted.{Fronted}
 use Rattle.gier_text.specs.SymbolsOnTracks.{text_on}
-use Rattle.gier_pass7.specs.Invariant.{IsShort as IsShortSeven}
+use Rattle.gier_text.specs.Potential.{IsShort}
 use Rattle.gier_tree.specs.Complete.{IsComplete}
-use Rattle.gier_pass8.specs.Invariant.{IsShort}
 use Rattle.gier_pass9.specs.ObjectOfText.{object_words, HoldsWords}
 use Rattle.gier_pass9.specs.Objects.{IsText7}
 use Rattle.gier_pass9.specs.PassOutput.{IsWrong}
@@ -18,7 +17,7 @@ use Rattle.gier_tree.specs.Object.{object_of}
 pub record HoldsSeven (tracks : Option (List (List ℕ))) (first bytes count : ℕ) : Type 0 where
   pub list : List Symbol
   pub held : text_on tracks first count ≡ Some list
-  pub short : IsShortSeven 7 bytes list
+  pub short : IsShort 7 bytes list
 
 -- the lengths of texts 1 to 8, of which the last two are no longer than a text may be
 pub record AreLengths (fronted : Fronted) (lengths : List ℕ) : Type 0 where

@@ -8,11 +8,10 @@ ghost use Rattle.gier_limits.specs.Areas.{longest, all_tracks, first_of, capacit
 ghost use Rattle.gier_text.specs.declared.pass.PassStop.TheVariants.{Drum as PassDrum};
 ghost use Rattle.gier_text.specs.declared.text.Way.TheVariants.{Backward};
 ghost use Rattle.gier_text.specs.SymbolsOnTracks.{tracks_for as tracks_of_text};
-ghost use Rattle.gier_text.specs.Potential.{IsWithinPotential};
+ghost use Rattle.gier_text.specs.Potential.{IsShort, IsWithinPotential};
 ghost use Rattle.gier_text.specs.TablesModel.{tables_model, fresh};
 ghost use Rattle.gier_text.specs.Turned.{CanDrive};
 ghost use Rattle.gier_text.specs.View.{KeepsTracks, SameTracks};
-ghost use Rattle.gier_pass7.specs.Invariant.{IsShort as IsShortSeven};
 ghost use Rattle.gier_pass8.specs.Invariant.{Relates};
 ghost use Rattle.gier_pass9.specs.ObjectOfText.{object_words, HoldsWords};
 ghost use Rattle.gier_pass9.specs.Object.{tracks_of};
@@ -130,7 +129,7 @@ fn run_pass7<T: Text>(
         output.new store.new result }
     ensures writes { (list : List Symbol) → (T.view input.old store.old).held ≡ Some list
         → (T.view output.old store.old).held ≡ Some []
-        → OnOk result (Writes (IsShortSeven 7 bytes) (T.view output.new store.new)) }
+        → OnOk result (Writes (IsShort 7 bytes) (T.view output.new store.new)) }
     ensures limit { (tables_model tables.new).limit ≡ (tables_model tables.old).limit }
     ensures sound { T.grows ≡ false → (list : List Symbol) → (T.view input.old store.old).held ≡ Some list
         → IsWithinPotential 6 bytes list
@@ -160,7 +159,7 @@ fn run_pass8<T: Text>(
     ensures stays { OnOk result (Stays T.view T.first_track T.end_track input.old store.old Backward store.new) }
     ensures limit { (tables_model tables.new).limit ≡ (tables_model tables.old).limit }
     ensures sound { T.grows ≡ false → (list : List Symbol) → (T.view input.old store.old).held ≡ Some list
-        → IsShortSeven 7 bytes list
+        → IsShort 7 bytes list
         → HasRoom (T.view output.old store.old) (capacity_of bytes) → OnlyDrum result }
 {
     prepare(tables);

@@ -12,7 +12,7 @@ use Rattle.gier_symbol.specs.declared.symbol.Symbol.{Symbol}
 use Rattle.gier_tree.specs.Object.{object_of}
 use Rattle.gier_text.specs.SymbolsOnTracks.{text_on}
 use Rattle.gier_limits.specs.Areas.{longest, first_of, object_first, words_of}
-use Rattle.gier_pass7.specs.Invariant.{IsShort}
+use Rattle.gier_text.specs.Potential.{IsShort}
 use Rattle.gier_tree.specs.Complete.{IsComplete}
 use Rattle.gier_pass9.specs.Objects.{IsText7}
 use Rattle.gier_exec.specs.Rows.{code_in}

@@ -9,19 +9,8 @@ ghost use Rattle.gier_pass4.specs.Lists.{HasLists, IsLetter, Copies, Moves, pote
 
 use crate::lists::{ENTRIES, FORMALS, Lists, OUT, OWN_ENTRIES, OWNS};
 use gier_symbol::{Symbol, Tag};
-use gier_text::Tables;
+use gier_text::{Tables, waiting_at};
 use std::cmp;
-
-// The symbol that waits at this place of a list.
-fn waiting_at(tables: &Tables, list: u8, at: u32) -> Option<Symbol>
-    requires open { list < length (tables_model tables.now).lists }
-    requires width { (list_at (tables_model tables.now).lists list).width ≡ 2 }
-    requires entry { at < (list_at (tables_model tables.now).lists list).count }
-    ensures value { result ≡ symbol_at (list_at (tables_model tables.now).lists list) at }
-    ensures symbol { IfSome result IsSymbol }
-{
-    Symbol::decode([tables.word(list, at, 0), tables.word(list, at, 1)])
-}
 
 impl Lists {
     // A description as it is to be written: its kind is known now.

@@ -1,6 +1,6 @@
 // The pass: what it knows of the place in which it stands, and how much it has taken.
 ghost use Rattle.std.specs.Prelude.{◌≡◌, ◌≤◌, ◌+◌, ◌*◌, ◌&&◌, [], nat_le};
-ghost use Rattle.gier_text.specs.Potential.{IsWithinPotential, is_name, is_numbered, potential_of};
+ghost use Rattle.gier_text.specs.Potential.{IsWithinPotential, is_numbered, potential_of};
 ghost use Rattle.gier_text.specs.TablesModel.{tables_model, fresh as fresh_tables};
 ghost use Rattle.gier_pass4.specs.Invariant.{PassInvariant};
 
@@ -8,7 +8,7 @@ use crate::lists::{Lists, OUT};
 use crate::marks::ParseState;
 use crate::owns::{Frame, Owned};
 use gier_symbol::{Alphabet, Coded, Symbol, Tag};
-use gier_text::{Pass, PassStop, Tables, Text, flush};
+use gier_text::{Pass, PassStop, Tables, Text, flush, is_name};
 use gier_word::Odd;
 
 /// Pass 4: takes text 3 backward, and writes text 4 from its end.
@@ -48,15 +48,6 @@ fn potential_of(tag: u16) -> u32
     } else {
         1
     }
-}
-
-// Whether the value is the number of an identifier.
-fn is_name(tag: u16) -> bool
-    ensures { result ≡ is_name tag }
-{
-    tag == Tag::Identifier.number()
-        || (Tag::Declaring.number() <= tag && tag <= Tag::Specified.number())
-        || tag == Tag::Entry.number()
 }
 
 impl Pass4 {

@@ -1,7 +1,7 @@
 // The state of the pass, and the few things that it does to its tables: write, add a fault, open and close.
 ghost use Rattle.std.specs.Prelude.{◌≡◌, ◌≤◌, ◌+◌, ◌*◌, IsTrue};
 ghost use Rattle.gier_symbol.specs.Symbols.{IsSymbol};
-ghost use Rattle.gier_text.specs.Potential.{is_numbered, is_name};
+ghost use Rattle.gier_text.specs.Potential.{is_numbered};
 ghost use Rattle.gier_text.specs.TablesModel.{tables_model};
 ghost use Rattle.gier_pass6.specs.StateInvariants.{IsWritable};
 
@@ -10,7 +10,7 @@ use crate::places::{Context, PendingName};
 use crate::types::ValueType;
 use gier_limits::FIRST_OWN_NAME;
 use gier_symbol::{Symbol, Tag, stands_in};
-use gier_text::{Fault, FaultKind, Tables, put};
+use gier_text::{Fault, FaultKind, Tables, is_name, put};
 use std::cmp;
 
 /// The list of symbols that wait to be written.
@@ -65,14 +65,6 @@ fn is_numbered(bytes: u32, s: Symbol) -> bool
     !is_name(s.tag)
         || s.value < bytes + STANDARD
         || (FIRST_OWN_NAME <= s.value && s.value < FIRST_OWN_NAME + bytes + 1)
-}
-
-fn is_name(tag: u16) -> bool
-    ensures { result ≡ is_name tag }
-{
-    tag == Tag::Identifier.number()
-        || (Tag::Declaring.number() <= tag && tag <= Tag::Specified.number())
-        || tag == Tag::Entry.number()
 }
 
 // Whether a symbol is one of text 6.

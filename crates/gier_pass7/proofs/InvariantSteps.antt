@@ -5,10 +5,11 @@ use Rattle.std.proofs.lemmas.List.Elements.{All-append}
 use Rattle.std.proofs.lemmas.List.{append-nil}
 use Rattle.gier_symbol.specs.declared.symbol.Symbol.{Symbol}
 use Rattle.gier_text.specs.TablesModel.{TablesModel}
+use Rattle.gier_text.specs.Potential.{IsShort}
 use Rattle.gier_pass7.specs.declared.pass.Pass7.{Pass7}
 use Rattle.gier_pass7.specs.StateInvariants.{PreservesTables}
 use Rattle.gier_pass7.specs.SendProgress.{IsLetter}
-use Rattle.gier_pass7.specs.Invariant.{IsShort, PassInvariant}
+use Rattle.gier_pass7.specs.Invariant.{PassInvariant}
 
 pub stands_more : (pass new : Pass7) (t u v : TablesModel) (read more written list : List Symbol) → PassInvariant pass t read written → PreservesTables pass.work.bytes t new.work.bytes u → PreservesTables new.work.bytes u new.work.bytes v → new.left + length list ≡ pass.left → All IsLetter list → PassInvariant new v (read ++ more) (written ++ list)
 stands_more pass new t u v read more written list h goes sent spent letters = record {

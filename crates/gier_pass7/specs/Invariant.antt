@@ -1,16 +1,10 @@
 -- What the pass keeps while it takes symbols.
-use Rattle.std.specs.Prelude.{◌≤◌, ◌+◌, ◌*◌, ℕ, List, All, IsTrue, length}
+use Rattle.std.specs.Prelude.{◌≤◌, ◌+◌, ◌*◌, List, All, length}
 use Rattle.gier_symbol.specs.declared.symbol.Symbol.{Symbol}
-use Rattle.gier_symbol.specs.Texts.{stands_in}
 use Rattle.gier_text.specs.TablesModel.{TablesModel}
 use Rattle.gier_pass7.specs.declared.pass.Pass7.{Pass7}
 use Rattle.gier_pass7.specs.StateInvariants.{HasLists}
 use Rattle.gier_pass7.specs.SendProgress.{IsLetter}
-
--- letters of this text, and no more than a program of so many bytes has
-pub record IsShort (text bytes : ℕ) (list : List Symbol) : Type 0 where
-  pub letters : All (λ s. IsTrue (stands_in text s.tag)) list
-  pub short : length list ≤ 24 * bytes + 64
 
 -- what was written and what may still be written come to the greatest length of a text
 pub record PassInvariant (pass : Pass7) (t : TablesModel) (read written : List Symbol) : Type 0 where

@@ -1,16 +1,16 @@
 // The pass: how much it may still write, and how it is driven.
 ghost use Rattle.std.specs.Prelude.{◌≡◌, ◌≤◌, ◌+◌, ◌*◌, []};
 ghost use Rattle.gier_symbol.specs.Symbols.{IsSymbol};
-ghost use Rattle.gier_text.specs.Potential.{IsWithinPotential};
+ghost use Rattle.gier_text.specs.Potential.{IsShort, IsWithinPotential};
 ghost use Rattle.gier_text.specs.TablesModel.{tables_model, fresh};
-ghost use Rattle.gier_pass7.specs.Invariant.{IsShort, PassInvariant};
+ghost use Rattle.gier_pass7.specs.Invariant.{PassInvariant};
 
 use crate::kinds::ValueType;
 use crate::lists::{STACK_WIDTH, SYMBOL_WIDTH, WORD_WIDTH, outbox_room, record_room, room};
 use crate::names::PendingName;
 use crate::send::send;
 use crate::state::State;
-use gier_limits::FIRST_NEW_LABEL;
+use gier_limits::{FIRST_NEW_LABEL, capacity};
 use gier_symbol::{Alphabet, Coded};
 use gier_text::{Pass, PassStop, Tables, Text};
 
@@ -22,14 +22,6 @@ pub struct Pass7 {
     // How many symbols may still be written.
     left: u32,
     work: State,
-}
-
-// The greatest number of symbols of text 7 of a program of so many bytes.
-fn most(bytes: u32) -> u32
-    requires { bytes ≤ 524288 }
-    ensures { result ≡ 24 * bytes + 64 }
-{
-    24 * bytes + 64
 }
 
 fn start(bytes: u32) -> State
@@ -76,7 +68,7 @@ impl Pass7 {
         tables.list(WORD_WIDTH, room(bytes));
         tables.list(WORD_WIDTH, room(bytes));
         Pass7 {
-            left: most(bytes),
+            left: capacity(bytes),
             work: start(bytes),
         }
     }

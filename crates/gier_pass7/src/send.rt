@@ -1,6 +1,6 @@
 // Writing what waits in the outbox. Entries that were left free aren't written, nor is what goes past the greatest length of a
 // text.
-ghost use Rattle.std.specs.Prelude.{◌≡◌, ◌≤◌, ◌<◌, ◌+◌, ◌*◌, ◌-◌, [], length, All, OnOk, IfOk, IfSome, IsErrOf, IsTrue, false};
+ghost use Rattle.std.specs.Prelude.{◌≡◌, ◌≤◌, ◌<◌, ◌+◌, ◌*◌, ◌-◌, [], length, IfOk, IfSome, IsErrOf, IsTrue, false};
 ghost use Rattle.gier_word.specs.Cause.{HasRisen};
 ghost use Rattle.gier_symbol.specs.Symbols.{IsSymbol};
 ghost use Rattle.gier_symbol.specs.Texts.{stands_in};
@@ -9,40 +9,13 @@ ghost use Rattle.gier_text.specs.TablesModel.{tables_model};
 ghost use Rattle.gier_text.specs.Log.{Logged};
 ghost use Rattle.gier_text.specs.Outbox.{if_any};
 ghost use Rattle.gier_text.specs.Passes.{HasLess, SpoiltIf};
-ghost use Rattle.gier_text.specs.View.{WritesAll, IsFull, IsPlacedAs, KeepsTracks, KeepsOthers};
+ghost use Rattle.gier_text.specs.View.{IsFull, IsPlacedAs, KeepsTracks, KeepsOthers};
 ghost use Rattle.gier_pass7.specs.StateInvariants.{HasLists, PreservesTables};
 ghost use Rattle.gier_pass7.specs.SendProgress.{IsLetter, Sends};
 
 use crate::lists::{OUTBOX, forget, head_at, len, value_at};
 use gier_symbol::{Symbol, stands_in};
-use gier_text::{PassStop, Tables, Text, write};
-
-fn write_any<T: Text>(
-    store: &mut T::Store,
-    out: &mut T,
-    symbol: Option<Symbol>,
-) -> Result<(), PassStop>
-    requires symbol { IfSome symbol IsSymbol }
-    requires writing { (T.view out.old store.old).rewound ≡ false }
-    requires placed { T.end_track out.old ≤ T.room store.old }
-    ensures written { OnOk result (WritesAll (T.view out.old store.old) (if_any symbol) (T.view out.new store.new)) }
-    ensures logged { Logged (T.view out.old store.old) (T.view out.new store.new) (T.journal store.old) (T.journal store.new) }
-    ensures place { IsPlacedAs T.first_track T.end_track out.old out.new }
-    ensures room { T.room store.new ≡ T.room store.old }
-    ensures tracks { KeepsTracks (T.first_track out.old) (T.end_track out.old) (T.tracks store.old) (T.tracks store.new) }
-    ensures kept { KeepsOthers T.view T.first_track T.end_track out.old store.old store.new }
-    ensures later { T.faults store.old ≤ T.faults store.new }
-    ensures failed { IsErrOf result Drum → HasRisen (T.faults store.old) (T.faults store.new) }
-    ensures memory { IsErrOf result Memory → IsTrue T.grows }
-    ensures full { IsErrOf result Full → IsFull (T.view out.new store.new) }
-    ensures full_before { IsErrOf result Full → IsFull (T.view out.old store.old) × (0 < length (if_any symbol)) }
-    ensures sound { SpoiltIf result ⊥ }
-{
-    match symbol {
-        Some(symbol) => write(store, out, symbol),
-        None => Ok(()),
-    }
-}
+use gier_text::{PassStop, Tables, Text, write_any};
 
 // The symbol that waits at this place, where there is one and some may still be written.
 fn waiting_at(bytes: u32, tables: &Tables, at: u64, left: u32) -> Option<Symbol>

@@ -2,16 +2,12 @@
 use Rattle.std.specs.Prelude.{◌≡◌, ◌≤◌, ◌+◌, ◌*◌, ℕ, List, All, IsTrue, length, reverse}
 use Rattle.gier_symbol.specs.declared.symbol.Symbol.{Symbol}
 use Rattle.gier_symbol.specs.Texts.{stands_in}
+use Rattle.gier_text.specs.Potential.{IsShort}
 use Rattle.gier_text.specs.TablesModel.{TablesModel}
 use Rattle.gier_pass8.specs.declared.pass.Pass8.{Pass8}
 use Rattle.gier_pass8.specs.Lists.{HasLists}
 use Rattle.gier_pass8.specs.Exact.{WritesText8}
 use Rattle.gier_pass8.specs.FromTheEnd.{WritesFromTheEnd}
-
--- letters of this text, and no more than a program of so many bytes has
-pub record IsShort (text bytes : ℕ) (list : List Symbol) : Type 0 where
-  pub letters : All (λ s. IsTrue (stands_in text s.tag)) list
-  pub short : length list ≤ 24 * bytes + 64
 
 -- no more was written than was taken, and that is text 8 from the last symbol taken on
 pub record PassInvariant (pass : Pass8) (t : TablesModel) (read written : List Symbol) : Type 0 where

@@ -1,18 +1,13 @@
 // The pass: how much it has taken, and how it is driven.
-ghost use Rattle.std.specs.Prelude.{◌≡◌, ◌≤◌, ◌+◌, ◌*◌, ◌<◌, [], OnOk, IfSome, IsErrOf, IsTrue, false, length};
-ghost use Rattle.gier_word.specs.Cause.{HasRisen};
-ghost use Rattle.gier_symbol.specs.Symbols.{IsSymbol};
-ghost use Rattle.gier_text.specs.declared.pass.PassStop.TheVariants.{Drum, Memory, Full};
+ghost use Rattle.std.specs.Prelude.{◌≡◌, ◌≤◌, ◌+◌, ◌*◌, []};
 ghost use Rattle.gier_text.specs.TablesModel.{tables_model, fresh};
-ghost use Rattle.gier_text.specs.Log.{Logged};
-ghost use Rattle.gier_text.specs.Outbox.{if_any};
-ghost use Rattle.gier_text.specs.Passes.{SpoiltIf};
-ghost use Rattle.gier_text.specs.View.{WritesAll, IsFull, IsPlacedAs, KeepsTracks, KeepsOthers};
-ghost use Rattle.gier_pass8.specs.Invariant.{IsShort, Relates, PassInvariant};
+ghost use Rattle.gier_text.specs.Potential.{IsShort};
+ghost use Rattle.gier_pass8.specs.Invariant.{Relates, PassInvariant};
 
 use crate::step::{NEED_WIDTH, State, room};
-use gier_symbol::{Alphabet, Coded, Symbol};
-use gier_text::{Pass, PassStop, Tables, Text, write};
+use gier_limits::capacity;
+use gier_symbol::{Alphabet, Coded};
+use gier_text::{Pass, PassStop, Tables, Text, write_any};
 use gier_word::Odd;
 
 /// Pass 8: takes text 7 backward, and writes text 8 from its end.
@@ -23,14 +18,6 @@ pub struct Pass8 {
     // How many symbols were taken.
     taken: u32,
     work: State,
-}
-
-// The greatest number of symbols of text 7 of a program of so many bytes.
-fn most(bytes: u32) -> u32
-    requires { bytes ≤ 524288 }
-    ensures { result ≡ 24 * bytes + 64 }
-{
-    24 * bytes + 64
 }
 
 impl Pass8 {
@@ -49,33 +36,6 @@ impl Pass8 {
             taken: 0,
             work: State { bytes, place: 0 },
         }
-    }
-}
-
-fn write_any<T: Text>(
-    store: &mut T::Store,
-    out: &mut T,
-    symbol: Option<Symbol>,
-) -> Result<(), PassStop>
-    requires symbol { IfSome symbol IsSymbol }
-    requires writing { (T.view out.old store.old).rewound ≡ false }
-    requires placed { T.end_track out.old ≤ T.room store.old }
-    ensures written { OnOk result (WritesAll (T.view out.old store.old) (if_any symbol) (T.view out.new store.new)) }
-    ensures logged { Logged (T.view out.old store.old) (T.view out.new store.new) (T.journal store.old) (T.journal store.new) }
-    ensures place { IsPlacedAs T.first_track T.end_track out.old out.new }
-    ensures room { T.room store.new ≡ T.room store.old }
-    ensures tracks { KeepsTracks (T.first_track out.old) (T.end_track out.old) (T.tracks store.old) (T.tracks store.new) }
-    ensures kept { KeepsOthers T.view T.first_track T.end_track out.old store.old store.new }
-    ensures later { T.faults store.old ≤ T.faults store.new }
-    ensures failed { IsErrOf result Drum → HasRisen (T.faults store.old) (T.faults store.new) }
-    ensures memory { IsErrOf result Memory → IsTrue T.grows }
-    ensures full { IsErrOf result Full → IsFull (T.view out.new store.new) }
-    ensures full_before { IsErrOf result Full → IsFull (T.view out.old store.old) × (0 < length (if_any symbol)) }
-    ensures sound { SpoiltIf result ⊥ }
-{
-    match symbol {
-        Some(symbol) => write(store, out, symbol),
-        None => Ok(()),
     }
 }
 
@@ -106,7 +66,7 @@ impl Pass for Pass8 {
         tables: &mut Tables,
     ) -> Result<(), PassStop> {
         let symbol = s.symbol();
-        if self.taken >= most(self.work.bytes) {
+        if self.taken >= capacity(self.work.bytes) {
             let [word, _] = symbol.code();
             return Err(PassStop::Spoilt(Odd {
                 place: u64::from(self.taken),

@@ -1,7 +1,8 @@
 -- How long the texts of the front become. A symbol weighs what it can come to in all later texts up to the sixth, so no pass adds
--- weight, and a text of a program of so many bytes has at most eight times as many symbols and 64 more.
+-- weight, and a text of a program of so many bytes has at most eight times as many symbols and 64 more. The texts behind it have at
+-- most 24 times as many and 64 more.
 use Rattle.std.specs.Prelude.{◌≤◌, ◌+◌, ◌*◌, ◌^◌, ◌==◌, ◌&&◌, ◌||◌, ℕ, Bool, not, nat_le, nat_lt, if◌then◌else◌, List, [], ◌∷◌}
-use Rattle.std.specs.Prelude.{All, IsTrue}
+use Rattle.std.specs.Prelude.{All, IsTrue, length}
 use Rattle.gier_symbol.specs.declared.symbol.Symbol.{Symbol}
 use Rattle.gier_symbol.specs.declared.tag.Tag.TheVariants.{Identifier, TextEnd, Declaring, Formal, Specified, Entry, Used}
 use Rattle.gier_symbol.specs.Texts.{stands_in, is_from, is_tag_of}
@@ -40,3 +41,8 @@ pub record IsWithinPotential (text bytes : ℕ) (list : List Symbol) : Type 0 wh
   pub letters : All (λ s. IsTrue (stands_in text s.tag)) list
   pub numbered : All (λ s. IsTrue (is_numbered text bytes s)) list
   pub light : potential text list ≤ 8 * bytes + 64
+
+-- letters of this text, and no more than a program of so many bytes has
+pub record IsShort (text bytes : ℕ) (list : List Symbol) : Type 0 where
+  pub letters : All (λ s. IsTrue (stands_in text s.tag)) list
+  pub short : length list ≤ 24 * bytes + 64

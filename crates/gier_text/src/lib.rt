@@ -9,6 +9,7 @@ mod fronted;
 mod list_text;
 mod outbox;
 mod pass;
+mod potential;
 mod tables;
 mod text;
 
@@ -17,8 +18,9 @@ pub use drum_text::DrumText;
 pub use fault::{Fault, FaultKind};
 pub use fronted::Fronted;
 pub use list_text::ListText;
-pub use outbox::{OUTBOX_WIDTH, flush, put};
+pub use outbox::{OUTBOX_WIDTH, flush, put, waiting_at, write_any};
 pub use pass::{Pass, PassStop};
+pub use potential::is_name;
 pub use tables::Tables;
 pub use text::{Text, TextStop, Way};
 

@@ -70,7 +70,8 @@ pub fn flush<T: Text>(
     Ok(())
 }
 
-fn write_any<T: Text>(
+/// Writes the symbol, where there is one.
+pub fn write_any<T: Text>(
     store: &mut T::Store,
     out: &mut T,
     symbol: Option<Symbol>,
@@ -97,8 +98,8 @@ fn write_any<T: Text>(
     }
 }
 
-// The symbol that waits at this place of the list.
-fn waiting_at(tables: &Tables, list: u8, at: u32) -> Option<Symbol>
+/// The symbol that waits at this place of the list.
+pub fn waiting_at(tables: &Tables, list: u8, at: u32) -> Option<Symbol>
     requires open { list < length (tables_model tables.now).lists }
     requires width { (list_at (tables_model tables.now).lists list).width ≡ 2 }
     requires entry { at < (list_at (tables_model tables.now).lists list).count }

@@ -12,7 +12,7 @@ pub returns-clause-ok : goal.returns-clause-ok
 returns-clause-ok g c =
     let pass = c.args.self.now in
     let new : Pass8 = record { taken = pass.taken + 1; work = c.step-written.new.self } in
-    let fits : pass.taken < 24 * pass.work.bytes + 64 = omega (arith, c.if-self-most.false, c.most.ensures) in
+    let fits : pass.taken < 24 * pass.work.bytes + 64 = omega (arith, c.if-self-capacity.false, c.capacity.ensures) in
     let room = 20 * pass.work.bytes + 64 in
     let old = tables_model c.args.tables.now in
     let tables = tables_model c.step-written.new.tables in
