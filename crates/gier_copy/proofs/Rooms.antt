@@ -6,7 +6,7 @@ use Rattle.gier_meaning.specs.Tree.{Name, Identifier, AnEntity, AProcedure, AFor
 use Rattle.gier_meaning.specs.Outcome.{is_among}
 use Rattle.gier_meaning.specs.Scopes.{identifier_in, identifiers_in, labels, all_labels, declared_names, of_block, identifiers_of, formal_identifiers, of_procedure}
 use Rattle.gier_meaning.specs.What.{What, IsLabel, IsVariable, IsArray, IsSwitch, IsProcedure, kinds, formal_what, declared_by, specified_by, labels_by, asking_first, in_block, in_procedure}
-use Rattle.gier_meaning.specs.Room.{count, element_need, passed_need, formals_of, call_need, value_words, declared_words, need, need_behind, greatest_need, passed_needs, turn_need, turns_need, bounds_need, statement_need, statements_need, evaluation_room, block_room, procedure_room}
+use Rattle.gier_meaning.specs.Room.{count, element_need, passed_need, formals_of, call_need, value_words, declared_words, need, need_behind, first_need, greatest_need, passed_needs, turn_need, turns_need, bounds_need, statement_need, statements_need, evaluation_room, block_room, procedure_room}
 use Rattle.gier_meaning.specs.Passing.{value_kind, alone_kind, meant_alone, expr_kind, actual_kind, actual_kinds, meant}
 use Rattle.gier_meaning.specs.Maps.{Map, map_without, hidden_from, hidden_in_body}
 use Rattle.gier_meaning.specs.Close.{close_name, close, close_all, close_left, close_lefts, close_element, close_elements, close_names, close_in, close_statements, close_declarations}
@@ -31,8 +31,8 @@ module _ (f : ℕ → Name) (w v : Name → What) (match : Match f w v) where
     need_same (Logical b line) = refl
     need_same (Alone n line) = refl
     need_same (Subscripted n line es) =
-        ap₂ (λ u c. element_need u c (need_behind w 1 (close_all f es)) (greatest_need w (close_all f es))) (match n) (count_same f es)
-        ∙ ap₂ (element_need (v n) (count es)) (behind_same 1 es) (greatest_same es)
+        ap₂ (λ u c. element_need u c (need_behind w 1 (close_all f es)) (first_need w (close_all f es))) (match n) (count_same f es)
+        ∙ ap₂ (element_need (v n) (count es)) (behind_same 1 es) (first_same es)
     need_same (Called n line es) =
         ap₂ (λ u c. call_need u c (passed_needs w 0 (formals_of u) (close_all f es)) (greatest_need w (close_all f es))) (match n)
         (count_same f es)
@@ -46,6 +46,10 @@ module _ (f : ℕ → Name) (w v : Name → What) (match : Match f w v) where
     behind_same : (i : ℕ) (es : Exprs) → need_behind w i (close_all f es) ≡ need_behind v i es
     behind_same i NoExprs = refl
     behind_same i (MoreExprs e es) = ap₂ (λ x y. max (i + x) y) (need_same e) (behind_same (suc i) es)
+
+    first_same : (es : Exprs) → first_need w (close_all f es) ≡ first_need v es
+    first_same NoExprs = refl
+    first_same (MoreExprs e es) = need_same e
 
     greatest_same : (es : Exprs) → greatest_need w (close_all f es) ≡ greatest_need v es
     greatest_same NoExprs = refl

@@ -14,10 +14,11 @@ abbrev pub count : Exprs → ℕ
 count NoExprs = 0
 count (MoreExprs e es) = suc (count es)
 
--- of an element with its number of subscripts, the greatest need of a subscript behind those before it, and the greatest of all
-abbrev pub element_need : What → (subscripts behind alone : ℕ) → ℕ
-element_need IsSwitch subscripts behind greatest = greatest
-element_need _ subscripts behind greatest = max (1 + subscripts) behind
+-- of an element with its number of subscripts, the greatest need of a subscript behind those before it, and that of the first one,
+-- which of a switch is the only one
+abbrev pub element_need : What → (subscripts behind first : ℕ) → ℕ
+element_need IsSwitch subscripts behind first = first
+element_need _ subscripts behind first = max (1 + subscripts) behind
 
 -- of a formal by value, what its actual needs behind i words
 abbrev pub passed_need : Kind → (i need : ℕ) → ℕ
@@ -56,7 +57,7 @@ module _ (what : Name → What) where
     need (Number value line) = 0
     need (Logical value line) = 0
     need (Alone name line) = 0
-    need (Subscripted name line es) = element_need (what name) (count es) (need_behind 1 es) (greatest_need es)
+    need (Subscripted name line es) = element_need (what name) (count es) (need_behind 1 es) (first_need es)
     need (Called name line es) = call_need (what name) (count es) (passed_needs 0 (formals_of (what name)) es) (greatest_need es)
     need (Bracketed line e) = need e
     need (Prefixed op line e) = need e
@@ -68,6 +69,10 @@ module _ (what : Name → What) where
     pub need_behind : ℕ → Exprs → ℕ
     need_behind i NoExprs = 0
     need_behind i (MoreExprs e es) = max (i + need e) (need_behind (suc i) es)
+
+    pub first_need : Exprs → ℕ
+    first_need NoExprs = 0
+    first_need (MoreExprs e es) = need e
 
     pub greatest_need : Exprs → ℕ
     greatest_need NoExprs = 0
