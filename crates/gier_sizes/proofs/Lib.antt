@@ -1,0 +1,2 @@
+pub mod ReadSymbols
+pub mod AssembledSymbols

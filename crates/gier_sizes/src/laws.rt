@@ -1,0 +1,16 @@
+// The laws of sizes. They have no code: each says what its contract says.
+ghost use Rattle.gier_sizes.specs.SymbolExamples.{AreAsMany};
+ghost use Rattle.gier_sizes.specs.Symbols.{AssembledSymbolsAreFew, NumbersAreSmall, ReadSymbolsAreFew};
+
+/// The symbols of any program text are at most as many as its bytes, and one more, before and after they are assembled; and the
+/// numbers of its identifiers are below that count and the standard ones together.
+pub fn law_symbols()
+    ensures read { ReadSymbolsAreFew }
+    ensures assembled { AssembledSymbolsAreFew }
+    ensures numbers { NumbersAreSmall }
+{}
+
+/// Some texts give as many symbols, or an identifier with a number as great, or nearly so.
+pub fn law_many_symbols()
+    ensures { AreAsMany }
+{}
