@@ -1,0 +1,3 @@
+pub mod ExpressionNeeds
+pub mod SameScopes
+pub mod StatementNeeds

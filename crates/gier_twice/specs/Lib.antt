@@ -1,0 +1,2 @@
+pub mod SameNeeds
+pub mod SameRooms

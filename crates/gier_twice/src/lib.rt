@@ -1,0 +1,6 @@
+// What is defined twice, once for texts and once for meanings, is the same. It holds the laws between the two, no code.
+#![tactic(auto)]
+
+mod laws;
+
+pub use laws::law_rooms;
