@@ -1,5 +1,5 @@
 -- The needs of expressions over the tree that is spelled and over the one that is executed are equal.
-use Rattle.std.proofs.Common.{◌≡◌, ◌∙◌, ◌+◌, ℕ, zero, suc, List, [], ◌∷◌, refl, sym as back, ap, ap₂, arith}
+use Rattle.std.proofs.Common.{◌≡◌, ◌∙◌, ◌+◌, ℕ, suc, List, [], ◌∷◌, refl, ap, ap₂, arith}
 use Rattle.std.specs.Prelude.{max}
 use Rattle.gier_agree.specs.declared.kind.Kind.{Kind as Fitting}
 use Rattle.gier_tree.specs.declared.kind.Kind.{Kind}
@@ -16,7 +16,7 @@ use Rattle.gier_meaning.specs.Room as meaning
 use Rattle.gier_meaning.specs.Tree as mean
 use Rattle.gier_meaning.specs.Tree.{Name, Identifier}
 use Rattle.gier_meaning.specs.What.{What}
-use Rattle.gier_twice.specs.SameNeeds.{AreAlike, AreSameFormals, IsSameFormal}
+use Rattle.gier_twice.specs.SameNeeds.{AreAlike, AreSameFormals}
 
 count_exprs_same : (es : Exprs) → tree.count_exprs es ≡ meaning.count (plain.exprs es)
 count_exprs_same NoExprs = refl
@@ -45,7 +45,7 @@ by_value scopes formals a more =
 module _ (scopes : Scopes) (what : Name → What) (alike : AreAlike scopes what) where
   join_by_value : (a : Actual) (more : Actuals) → tree.need_actual scopes a ≡ meaning.need what (plain.actual a)
       → ((kinds : List Kind) (fittings : List Fitting) → AreSameFormals kinds fittings
-        → tree.need_by_value scopes more kinds 2 ≡ meaning.passed_needs what 2 fittings (plain.actuals more))
+      → tree.need_by_value scopes more kinds 2 ≡ meaning.passed_needs what 2 fittings (plain.actuals more))
       → (kinds : List Kind) (fittings : List Fitting) → AreSameFormals kinds fittings
       → by_value scopes kinds a more ≡ meaning.passed_needs what 0 fittings (plain_actuals a more)
   join_by_value a more first others [] [] f = omega (arith, none_by_value scopes more 2)
@@ -112,9 +112,9 @@ module _ (scopes : Scopes) (what : Name → What) (alike : AreAlike scopes what)
         let passed = meaning.passed_needs what 0 fittings (plain_actuals a more) in
         let greatest = max (meaning.need what (plain.actual a)) (meaning.greatest_need what as_) in
         ap₂ (λ c g. tree.call_need (scopes x.number).kind (suc c) (by_value scopes formals a more) g) (count_actuals_same more)
-          (ap₂ max (same_actual a) (same_actuals more))
+        (ap₂ max (same_actual a) (same_actuals more))
         ∙ ap (λ v. tree.call_need (scopes x.number).kind (suc (meaning.count as_)) v greatest)
-          (join_by_value a more (same_actual a) (λ ks gs f. same_passed more ks gs f 2) formals fittings (alike x.number).formals)
+        (join_by_value a more (same_actual a) (λ ks gs f. same_passed more ks gs f 2) formals fittings (alike x.number).formals)
         ∙ (alike x.number).call (suc (meaning.count as_)) passed greatest
 
     pub same_element : (e : Element) → tree.need_element scopes e ≡ meaning.need what (plain.element e)
@@ -122,7 +122,7 @@ module _ (scopes : Scopes) (what : Name → What) (alike : AreAlike scopes what)
         let es' = plain.exprs es in
         let n = meaning.need what (plain.expr e) in
         ap₂ (λ c g. tree.element_need (scopes x.number).kind (suc c) g (max (1 + g) (tree.need_subscripts scopes es 2)))
-          (count_exprs_same es) (same_expr e)
+        (count_exprs_same es) (same_expr e)
         ∙ ap (λ b. tree.element_need (scopes x.number).kind (suc (meaning.count es')) n (max (1 + n) b)) (same_subscripts es 2)
         ∙ (alike x.number).element (suc (meaning.count es')) n (max (1 + n) (meaning.need_behind what 2 es'))
 

@@ -1,3 +1,4 @@
 pub mod ExpressionNeeds
 pub mod SameScopes
 pub mod StatementNeeds
+pub mod ProgramsEqual

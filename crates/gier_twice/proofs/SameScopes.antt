@@ -227,14 +227,14 @@ formal_by : (P : Kind → Fitting → Type 0) → P Undeclared agree_kind.Intege
 formal_by P none some [] vs x = none
 formal_by P none some (s ∷ ss) vs x =
     subst (λ t. P (if t then scope.specified_kind s.specifier (scope.is_by_value x vs) else scope.formal_kind ss vs x)
-      (plain.formal_kind x (plain.is_by_value x vs) (s ∷ ss))) (back (named_same x s.names))
+    (plain.formal_kind x (plain.is_by_value x vs) (s ∷ ss))) (back (named_same x s.names))
     (subst (λ v. P (if plain.is_in x (plain.name_list s.names) then scope.specified_kind s.specifier v else scope.formal_kind ss vs x)
-      (plain.formal_kind x (plain.is_by_value x vs) (s ∷ ss))) (back (by_value_same x vs))
+    (plain.formal_kind x (plain.is_by_value x vs) (s ∷ ss))) (back (by_value_same x vs))
     (either_way (plain.is_in x (plain.name_list s.names)) (some s.specifier (plain.is_by_value x vs)) (formal_by P none some ss vs x)))
   where
     either_way : (t : Bool) → P (scope.specified_kind s.specifier (plain.is_by_value x vs)) (plain.specified_kind s.specifier (plain.is_by_value x vs))
-      → P (scope.formal_kind ss vs x) (plain.formal_kind x (plain.is_by_value x vs) ss)
-      → P (if t then scope.specified_kind s.specifier (plain.is_by_value x vs) else scope.formal_kind ss vs x)
+        → P (scope.formal_kind ss vs x) (plain.formal_kind x (plain.is_by_value x vs) ss)
+        → P (if t then scope.specified_kind s.specifier (plain.is_by_value x vs) else scope.formal_kind ss vs x)
         (if t then plain.specified_kind s.specifier (plain.is_by_value x vs) else plain.formal_kind x (plain.is_by_value x vs) ss)
     either_way true a r = a
     either_way false a r = r
@@ -271,17 +271,17 @@ formals_alike ss vs [] h e scopes outer a y = a y
 formals_alike ss vs (x ∷ xs) h e scopes outer a y =
     either_way (y == x.number)
     (subst (λ k. NeedsAlike (scope.plain k) (formal_what (plain.formal_kind x.number (plain.is_by_value x.number vs) ss)))
-      (back (e x.number))
-      (formal_by (λ k g. NeedsAlike (scope.plain k) (formal_what g)) (record { element = λ c f a. refl; call = λ c b g. refl; formals = tt })
-      specified_alike ss vs x.number))
+    (back (e x.number))
+    (formal_by (λ k g. NeedsAlike (scope.plain k) (formal_what g)) (record { element = λ c f a. refl; call = λ c b g. refl; formals = tt })
+    specified_alike ss vs x.number))
     (formals_alike ss vs xs h e scopes outer a y)
   where
     either_way : (t : Bool)
-      → NeedsAlike (scope.plain (scope.kind_in h x.number)) (formal_what (plain.formal_kind x.number (plain.is_by_value x.number vs) ss))
-      → NeedsAlike (scope.bind_formals h xs scopes y) (specified_by (plain.formals_from vs ss xs) y (outer y))
-      → NeedsAlike (if t then scope.plain (scope.kind_in h x.number) else scope.bind_formals h xs scopes y)
+        → NeedsAlike (scope.plain (scope.kind_in h x.number)) (formal_what (plain.formal_kind x.number (plain.is_by_value x.number vs) ss))
+        → NeedsAlike (scope.bind_formals h xs scopes y) (specified_by (plain.formals_from vs ss xs) y (outer y))
+        → NeedsAlike (if t then scope.plain (scope.kind_in h x.number) else scope.bind_formals h xs scopes y)
         (if t then formal_what (plain.formal_kind x.number (plain.is_by_value x.number vs) ss)
-          else specified_by (plain.formals_from vs ss xs) y (outer y))
+        else specified_by (plain.formals_from vs ss xs) y (outer y))
     either_way true now later = now
     either_way false now later = later
 
@@ -292,18 +292,19 @@ within_procedures scopes what a t l x fs m vs ss s =
     listed fs
   where
     labels_here : (y : ℕ) → NeedsAlike (scope.bind_labels (labels_of_statement s []) scopes y)
-      (labels_by (labels (plain.statement s)) y (what (Identifier y)))
+        (labels_by (labels (plain.statement s)) y (what (Identifier y)))
     labels_here = labels_alike (labels_of_statement s []) (labels (plain.statement s)) (labels_same s [] ∙ append-nil (labels (plain.statement s)))
-      scopes (λ y. what (Identifier y)) a
+        scopes (λ y. what (Identifier y)) a
+
     listed : (fs : tree.Formals) → (y : ℕ) → NeedsAlike (scope.bind_formals (MkHeading t l x fs m vs ss) (formals_of (MkHeading t l x fs m vs ss))
-      (scope.bind_labels (labels_of_statement s []) scopes) y)
-      (specified_by (plain.formals fs vs ss) y (labels_by (labels (plain.statement s)) y (what (Identifier y))))
+        (scope.bind_labels (labels_of_statement s []) scopes) y)
+        (specified_by (plain.formals fs vs ss) y (labels_by (labels (plain.statement s)) y (what (Identifier y))))
     listed tree.NoFormals y = labels_here y
     listed (tree.FormalList k ns n) y =
-      subst (λ xs. NeedsAlike (scope.bind_formals (MkHeading t l x (tree.FormalList k ns n) m vs ss) (list_of ns)
+        subst (λ xs. NeedsAlike (scope.bind_formals (MkHeading t l x (tree.FormalList k ns n) m vs ss) (list_of ns)
         (scope.bind_labels (labels_of_statement s []) scopes) y)
         (specified_by (plain.formals_from vs ss xs) y (labels_by (labels (plain.statement s)) y (what (Identifier y))))) (back (list_same ns))
-      (formals_alike ss vs (list_of ns) (MkHeading t l x (tree.FormalList k ns n) m vs ss) (λ x. refl)
+        (formals_alike ss vs (list_of ns) (MkHeading t l x (tree.FormalList k ns n) m vs ss) (λ x. refl)
         (scope.bind_labels (labels_of_statement s []) scopes) (λ y. labels_by (labels (plain.statement s)) y (what (Identifier y))) labels_here y)
 
 pub within_turns : (scopes : Scopes) (what : Name → What) → AreAlike scopes what → (s : tree.Statement)
@@ -360,12 +361,12 @@ declarations_alike (tree.MoreDeclarations d l ds) scopes outer h =
 pub within_blocks : (scopes : Scopes) (what : Name → What) → AreAlike scopes what → (d : tree.Declaration) (ds : tree.Declarations)
     (s : tree.Statement) (ss : tree.Statements)
     → AreAlike (scope.block_scopes d ds s ss scopes)
-      (in_block (plain.declaration d (plain.declarations ds)) (MoreStatements (plain.statement s) (plain.statements ss)) what)
+    (in_block (plain.declaration d (plain.declarations ds)) (MoreStatements (plain.statement s) (plain.statements ss)) what)
 within_blocks scopes what a d ds s ss =
     let own = all_labels (MoreStatements (plain.statement s) (plain.statements ss)) in
     let ls = labels_of_statement s (labels_of_statements ss []) in
     let told : numbers (label_names ls) ≡ own = labels_same s (labels_of_statements ss [])
-      ∙ ap (λ r. labels (plain.statement s) ++ r) (all_labels_same ss [] ∙ append-nil (all_labels (plain.statements ss))) in
+    ∙ ap (λ r. labels (plain.statement s) ++ r) (all_labels_same ss [] ∙ append-nil (all_labels (plain.statements ss))) in
     let outer : (ℕ → What) = λ y. labels_by own y (what (Identifier y)) in
     declaration_alike d (plain.declarations ds) (scope.bind_declarations ds (scope.bind_labels ls scopes)) outer
     (declarations_alike ds (scope.bind_labels ls scopes) outer (labels_alike ls own told scopes (λ y. what (Identifier y)) a))

@@ -10,7 +10,7 @@ use Rattle.gier_tree.specs.Trees.{MkHeading, MkPair, MkSegment, NextPair, NextSe
 use Rattle.gier_agree.specs.declared.kind.Kind.{Kind as Fitting}
 use Rattle.gier_meaning.specs.Plain as plain
 use Rattle.gier_meaning.specs.Room as meaning
-use Rattle.gier_meaning.specs.Tree.{Name, Exprs, Statement, Declarations, MoreStatements, Element}
+use Rattle.gier_meaning.specs.Tree.{Name, Statement, Declarations, MoreStatements}
 use Rattle.gier_meaning.specs.What.{What, in_block, in_procedure, in_controlled}
 use Rattle.gier_twice.specs.SameNeeds.{AreAlike}
 use Rattle.gier_twice.proofs.ExpressionNeeds.{same_expr, same_call, same_element}
@@ -34,8 +34,8 @@ module _ (scopes : Scopes) (what : Name → What) (alike : AreAlike scopes what)
       let eb = same_expr scopes what alike b in
       let more = pairs_same p.pair ps (before + 2) in
       let place : meaning.need_behind what (before + 2) (plain.bounds p.pair ps)
-            ≡ meaning.need_behind what (suc (suc before)) (plain.bounds p.pair ps) =
-            ap (λ n. meaning.need_behind what n (plain.bounds p.pair ps)) (the (before + 2 ≡ suc (suc before)) (omega arith)) in
+      ≡ meaning.need_behind what (suc (suc before)) (plain.bounds p.pair ps) =
+      ap (λ n. meaning.need_behind what n (plain.bounds p.pair ps)) (the (before + 2 ≡ suc (suc before)) (omega arith)) in
       omega (arith, ea, eb, more, place)
 
   segment_same : (kind : Fitting) (s : tree.Segment) (rest : Declarations)
@@ -76,7 +76,7 @@ module _ (scopes : Scopes) (what : Name → What) (alike : AreAlike scopes what)
   -- left parts and the right side behind them
   assignment_same : (ps : List tree.LeftPart) (e : tree.Expr) (before : ℕ) → tree_need.need_assignment scopes ps e before
       ≡ max (before + (meaning.count (plain.left_parts ps) + meaning.need what (plain.expr e)))
-        (meaning.need_behind what before (plain.left_parts ps))
+      (meaning.need_behind what before (plain.left_parts ps))
   assignment_same [] e before = let g = same_expr scopes what alike e in omega (arith, g)
   assignment_same (p ∷ ps) e before =
       let g = left_same p.left in
@@ -124,8 +124,8 @@ mutual
   basic_same scopes what a (tree.Assign p ps e) = assignment_same scopes what a (p ∷ ps) e 0 ∙ zero_plus
     where
       zero_plus : max (0 + (suc (meaning.count (plain.left_parts ps)) + meaning.need what (plain.expr e)))
-        (meaning.need_behind what 0 (plain.left_parts (p ∷ ps)))
-        ≡ max (suc (meaning.count (plain.left_parts ps)) + meaning.need what (plain.expr e)) (meaning.need_behind what 0 (plain.left_parts (p ∷ ps)))
+          (meaning.need_behind what 0 (plain.left_parts (p ∷ ps)))
+          ≡ max (suc (meaning.count (plain.left_parts ps)) + meaning.need what (plain.expr e)) (meaning.need_behind what 0 (plain.left_parts (p ∷ ps)))
       zero_plus = omega arith
   basic_same scopes what a (tree.Jump l e) = same_expr scopes what a e
   basic_same scopes what a (tree.CallStatement c) = same_call scopes what a c
@@ -150,8 +150,8 @@ mutual
       → tree_need.need_loop scopes f ≡ meaning.statement_need what (plain.loop f)
   loop_same scopes what a (tree.MkLoop ls l x m t ts n s) =
       ap (λ n. 1 + n) (ap₂ max
-        (statement_same (turn_scopes s scopes) (in_controlled (plain.statement s) what) (within_turns scopes what a s) s)
-        (ap₂ max (turns_same scopes what a t) (next_turns_same scopes what a ts)))
+      (statement_same (turn_scopes s scopes) (in_controlled (plain.statement s) what) (within_turns scopes what a s) s)
+      (ap₂ max (turns_same scopes what a t) (next_turns_same scopes what a ts)))
       ∙ back (labelled_need what ls _)
 
 -- words of what is declared
@@ -242,7 +242,7 @@ pub procedures_equal : (scopes : Scopes) (what : Name → What) → AreAlike sco
 procedures_equal scopes what a t l x fs m vs ss s =
     let inner = within_procedures scopes what a t l x fs m vs ss s in
     let need = statement_same (procedure_scopes (MkHeading t l x fs m vs ss) s scopes)
-          (in_procedure (plain.formals fs vs ss) (plain.statement s) what) inner s in
+    (in_procedure (plain.formals fs vs ss) (plain.statement s) what) inner s in
     let many = formals_equal t l x fs m vs ss in
     let result = result_equal t in
     omega (arith, need, many, result)

@@ -1,2 +1,3 @@
 pub mod SameNeeds
 pub mod SameRooms
+pub mod ProgramRooms

@@ -22,7 +22,7 @@ AreSameFormals (kind ∷ kinds) (fitting ∷ fittings) = IsSameFormal kind fitti
 pub record NeedsAlike (described : Described) (what : What) : Type 0 where
   pub element : (count first all : ℕ) → tree.element_need described.kind count first all ≡ meaning.element_need what count all first
   pub call : (count by_value greatest : ℕ)
-    → tree.call_need described.kind count by_value greatest ≡ meaning.call_need what count by_value greatest
+      → tree.call_need described.kind count by_value greatest ≡ meaning.call_need what count by_value greatest
   pub formals : AreSameFormals described.formals (meaning.formals_of what)
 
 -- so it is with each identifier

@@ -4,7 +4,7 @@ use Rattle.std.specs.Prelude.{◌≡◌, ℕ, List, Option}
 use Rattle.gier_tree.specs.Trees as tree
 use Rattle.gier_tree.specs.Room as tree_room
 use Rattle.gier_tree.specs.Described.{Scopes, block_scopes, procedure_scopes, turn_scopes}
-use Rattle.gier_meaning.specs.Plain.{expr, statement, statements, declaration, declarations, formals, procedure_kind, plain}
+use Rattle.gier_meaning.specs.Plain.{expr, statement, statements, declaration, declarations, formals, procedure_kind}
 use Rattle.gier_meaning.specs.Room as meaning
 use Rattle.gier_meaning.specs.Tree.{Name, MoreStatements}
 use Rattle.gier_meaning.specs.What.{What, in_block, in_procedure, in_controlled}
@@ -15,13 +15,13 @@ abbrev pub BlocksStayAlike : Type 0
 BlocksStayAlike = (scopes : Scopes) (what : Name → What) → AreAlike scopes what → (d : tree.Declaration) (ds : tree.Declarations)
     (s : tree.Statement) (ss : tree.Statements)
     → AreAlike (block_scopes d ds s ss scopes)
-      (in_block (declaration d (declarations ds)) (MoreStatements (statement s) (statements ss)) what)
+    (in_block (declaration d (declarations ds)) (MoreStatements (statement s) (statements ss)) what)
 
 abbrev pub ProceduresStayAlike : Type 0
 ProceduresStayAlike = (scopes : Scopes) (what : Name → What) → AreAlike scopes what → (type : Option tree.TypeWord) (l : ℕ)
     (x : tree.Name) (fs : tree.Formals) (m : ℕ) (vs : tree.ValuePart) (ss : List tree.Specification) (s : tree.Statement)
     → AreAlike (procedure_scopes (tree.MkHeading type l x fs m vs ss) s scopes)
-      (in_procedure (formals fs vs ss) (statement s) what)
+    (in_procedure (formals fs vs ss) (statement s) what)
 
 abbrev pub TurnsStayAlike : Type 0
 TurnsStayAlike = (scopes : Scopes) (what : Name → What) → AreAlike scopes what → (s : tree.Statement)

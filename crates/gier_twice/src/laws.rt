@@ -1,13 +1,16 @@
 // The laws between definitions of one thing. They have no code: each says what its contract says.
+ghost use Rattle.gier_twice.specs.ProgramRooms.{PlacesTellTheNeed, ProgramsAreEqual};
 ghost use Rattle.gier_twice.specs.SameRooms.{BlocksAreEqual, BlocksStayAlike, EvaluationsAreEqual};
 ghost use Rattle.gier_twice.specs.SameRooms.{ProceduresAreEqual, ProceduresStayAlike, TurnsStayAlike};
 
 /// The rooms of blocks, procedures and evaluations are those of text 7, where what a meaning asks of identifiers is what scopes tell;
-/// and within each scope it is so again.
-pub fn law_rooms()
+/// within each scope it is so again. The room of a program is that of text 7, for any data and any permitted steps.
+pub fn law_same_rooms()
     ensures evaluations { EvaluationsAreEqual }
     ensures blocks { BlocksAreEqual }
     ensures procedures { ProceduresAreEqual }
+    ensures programs { ProgramsAreEqual }
+    ensures places { PlacesTellTheNeed }
     ensures within_blocks { BlocksStayAlike }
     ensures within_procedures { ProceduresStayAlike }
     ensures within_turns { TurnsStayAlike }

@@ -3,4 +3,4 @@
 
 mod laws;
 
-pub use laws::law_rooms;
+pub use laws::law_same_rooms;
