@@ -56,7 +56,6 @@ example_premises = record {
   places = all_placed text labels_there;
   room = omega arith;
   need = refl;
-  same_room = refl;
   few = omega arith;
   labels = λ number lt. subst (λ k. IsLabel (hoist example) k) (zero_is number lt) the_label;
 }

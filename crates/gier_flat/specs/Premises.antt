@@ -1,5 +1,5 @@
 -- What the law asks of a hoisted program beside that it is of the part of the language for which it is proved.
-use Rattle.std.specs.Prelude.{◌≡◌, ◌<◌, ◌+◌, ◌^◌, ℕ, true, List, [], length, drop}
+use Rattle.std.specs.Prelude.{◌≡◌, ◌<◌, ◌+◌, ◌^◌, ℕ, true, List, length, drop}
 use Rattle.gier_tree.specs.Coded.{scopes_of}
 use Rattle.gier_tree.specs.Need.{need_group}
 use Rattle.gier_tree.specs.Object.{address_of, need_behind}
@@ -8,10 +8,7 @@ use Rattle.gier_tree.specs.Room.{block_header}
 use Rattle.gier_tree.specs.Text7.{code_program}
 use Rattle.gier_tree.specs.Trees.{Program, MkProgram}
 use Rattle.gier_meaning.specs.Plain.{plain}
-use Rattle.gier_meaning.specs.Room.{program_room}
 use Rattle.gier_meaning.specs.Scopes.{quantities, labels}
-use Rattle.gier_meaning.specs.Standing.{initial_state}
-use Rattle.gier_env.specs.Closures.{what_of}
 use Rattle.gier_env.specs.Env.{Env, Outermost, Inside, NoBindings, with_entities}
 use Rattle.gier_env.specs.Standing.{standard_bindings}
 use Rattle.gier_env.specs.Statements.{has}
@@ -42,10 +39,9 @@ pub record Premises (t : Program) : Type 0 where
   pub short : words_in (code_program t) < 2 ^ 24
   pub stop : HasStop (code_program t)
   pub places : PlacesAreAddresses (code_program t)
-  -- its room is known, and is what the meaning takes
+  -- its room is known
   pub room : block_header + program_need t < 2 ^ 24
   pub need : need_behind (drop 1 (code_program t)) 0 ≡ program_need t
-  pub same_room : program_room (what_of (program_env t) (initial_state [] 0)) (plain t).statement ≡ block_header + program_need t
   -- its labels
   pub few : length (own_labels t) < 2 ^ 24
   pub labels : (number : ℕ) → number < length (own_labels t) → IsLabel t number
