@@ -24,11 +24,11 @@ use Rattle.gier_twice.specs.SameNeeds.{AreAlike, AreSameFormals, IsSameFormal, N
 
 -- the same names, in both trees
 
-abbrev numbers : List tree.Name → List ℕ
+abbrev pub numbers : List tree.Name → List ℕ
 numbers [] = []
 numbers (x ∷ xs) = x.number ∷ numbers xs
 
-abbrev label_names : List LabelPlace → List tree.Name
+abbrev pub label_names : List LabelPlace → List tree.Name
 label_names ls = map (λ l. l.name) ls
 
 more_same : (ns : List NextName) → plain.more_names ns ≡ map (λ n. n.name) ns
@@ -220,7 +220,7 @@ specified_alike (tree.FunctionSpec t l) b = typed t.type
     typed BooleanType = record { element = λ c f a. refl; call = λ c b g. refl; formals = tt }
 
 -- by the first specification that names it, in both
-formal_by : (P : Kind → Fitting → Type 0) → P Undeclared agree_kind.Integer
+pub formal_by : (P : Kind → Fitting → Type 0) → P Undeclared agree_kind.Integer
     → ((s : tree.Specifier) (b : Bool) → P (scope.specified_kind s b) (plain.specified_kind s b))
     → (ss : List tree.Specification) (vs : tree.ValuePart) (x : ℕ)
     → P (scope.formal_kind ss vs x) (plain.formal_kind x (plain.is_by_value x vs) ss)

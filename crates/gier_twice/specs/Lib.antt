@@ -1,3 +1,4 @@
 pub mod SameNeeds
 pub mod SameRooms
 pub mod ProgramRooms
+pub mod SameParts

@@ -1,5 +1,6 @@
 // The laws between definitions of one thing. They have no code: each says what its contract says.
 ghost use Rattle.gier_twice.specs.ProgramRooms.{PlacesTellTheNeed, ProgramsAreEqual};
+ghost use Rattle.gier_twice.specs.SameParts.{FormalsAreEqual, LabelsAreEqual, LinesAreEqual, ProgramLabelsAreEqual};
 ghost use Rattle.gier_twice.specs.SameRooms.{BlocksAreEqual, BlocksStayAlike, EvaluationsAreEqual};
 ghost use Rattle.gier_twice.specs.SameRooms.{ProceduresAreEqual, ProceduresStayAlike, TurnsStayAlike};
 
@@ -14,4 +15,20 @@ pub fn law_same_rooms()
     ensures within_blocks { BlocksStayAlike }
     ensures within_procedures { ProceduresStayAlike }
     ensures within_turns { TurnsStayAlike }
+{}
+
+/// The kinds that formals want of their actuals are the same in text 7 and in the meaning.
+pub fn law_same_formals()
+    ensures { FormalsAreEqual }
+{}
+
+/// The labels of a statement's scope and of a program are the same in texts and in the meaning.
+pub fn law_same_labels()
+    ensures statements { LabelsAreEqual }
+    ensures programs { ProgramLabelsAreEqual }
+{}
+
+/// The lines of first symbols are told alike by hoisting, by texts and by the meaning.
+pub fn law_same_lines()
+    ensures { LinesAreEqual }
 {}
