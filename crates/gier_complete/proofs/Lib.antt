@@ -1,0 +1,10 @@
+pub mod EachKind
+pub mod OrderPieces
+pub mod Passing
+pub mod PiecesCarry
+pub mod ActualsCarry
+pub mod CallsCarry
+pub mod ExpressionsCarry
+pub mod ConstructsCarry
+pub mod StatementsCarry
+pub mod Claims
