@@ -1,5 +1,5 @@
 -- The law's premises hold of the example.
-use Rattle.std.proofs.Common.{◌≡◌, ℕ, ◌+◌, ◌<◌, List, [], ◌∷◌, ◌++◌, refl, sym, subst, arith, inl, inr}
+use Rattle.std.proofs.Common.{◌≡◌, ℕ, ◌+◌, ◌<◌, List, [], ◌∷◌, ◌++◌, refl, sym, subst, arith}
 use Rattle.std.specs.Prelude.{◌^◌, ⊤}
 use Rattle.gier_symbol.specs.declared.symbol.Symbol.{Symbol}
 use Rattle.gier_symbol.specs.declared.tag.Tag.TheVariants.{LabelPlace}
@@ -7,9 +7,9 @@ use Rattle.gier_symbol.specs.ByTag.{sym as tagged}
 use Rattle.gier_tree.specs.Hoist.{hoist}
 use Rattle.gier_tree.specs.Object.{Piece, APlace, piece_of, words_of, address_of}
 use Rattle.gier_tree.specs.Text7.{code_program}
+use Rattle.gier_tree.specs.Words.{words_in, PlacesAreAddresses}
 use Rattle.gier_flat.specs.Example.{example}
 use Rattle.gier_flat.specs.Premises.{IsLabel, Premises}
-use Rattle.gier_tree.specs.Words.{words_in, HasStop, PlacesAreAddresses}
 
 module _ (text : List Symbol) where
   -- the place of a label behind so many words
@@ -42,9 +42,6 @@ labels_there : ArePlaced text text 0
 labels_there =
     (tt, ((omega arith, refl), (tt, (tt, (tt, (tt, (tt, (tt, (tt, (tt, (tt, (tt, (tt, (tt, (tt, ((omega arith, refl), (tt, ((omega arith, refl), (tt, (tt, (tt, tt)))))))))))))))))))))
 
-stop_there : HasStop text
-stop_there = inr (inr (inr (inr (inr (inr (inr (inr (inr (inr (inr (inr (inr (inr (inr (inr (inr (inr (inl (refl, refl)))))))))))))))))))
-
 the_label : IsLabel (hoist example) 0
 the_label = record { within = refl; above = omega arith; below = omega arith }
 
@@ -52,10 +49,8 @@ pub example_premises : Premises (hoist example)
 example_premises = record {
   part = (tt, (((refl, tt), (refl, (omega arith, omega arith))), ((tt, (omega arith, omega arith), (tt, refl), (tt, refl)), tt)));
   short = omega (arith, words_are);
-  stop = stop_there;
   places = all_placed text labels_there;
   room = omega arith;
-  need = refl;
   few = omega arith;
   labels = λ number lt. subst (λ k. IsLabel (hoist example) k) (zero_is number lt) the_label;
 }

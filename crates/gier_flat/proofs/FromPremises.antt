@@ -22,6 +22,7 @@ use Rattle.gier_meaning.specs.Standing.{initial_state}
 use Rattle.gier_meaning.specs.Observation.{observation}
 use Rattle.gier_env.specs.Meaning.{meaning, program_run, within}
 use Rattle.gier_twice.proofs.ProgramsEqual.{places_equal, programs_equal}
+use Rattle.gier_complete.proofs.Claims.{are_whole}
 use Rattle.gier_flat.specs.Alike.{TellsTheSame}
 use Rattle.gier_flat.specs.Law.{RunIsMeaning}
 use Rattle.gier_flat.specs.Premises.{Premises, own_labels}
@@ -68,10 +69,10 @@ module _ (ls : List LabelPlace) (l : ℕ) (s : tree.Statement) (ss : tree.Statem
 
   of_compound : (input : List ℕ) (steps size : ℕ) → size < 2 ^ 24 → TellsTheSame text (flat (object_of text) 0 input steps size) (meaning size t input steps)
   of_compound input steps size small =
-      let setting : Setting = record { text = text; size = size; ends = h.stop; small = small; right = h.places; short = short } in
+      let setting : Setting = record { text = text; size = size; ends = (are_whole t).stop; small = small; right = h.places; short = short } in
       let below : (e : ℕ) → e < length xs → address_of text e 0 < length (object text) = λ e lt. subst (λ k. address_of text e 0 < k) (sym (length_from text text)) (h.labels e lt).below in
       subst (λ room. TellsTheSame text (flat (object_of text) 0 input steps size) (observation steps (program_run size (within size steps) l (statement u) (own xs) (env xs) (live_after_taking size 0 0 room) room (initial_state input steps)))) (places_equal ls g end ∙ programs_equal t input steps)
-      (program_told setting input steps l (env xs) (places (labels_of_program t)) place u h.part (own xs) (initial_state input steps) begun beyond h.room stands refl h.need refl refl refl refl refl
+      (program_told setting input steps l (env xs) (places (labels_of_program t)) place u h.part (own xs) (initial_state input steps) begun beyond h.room stands refl (are_whole t).need refl refl refl refl refl
       (NewLabel setting input steps (labels_of_program t) xs (same_program ls g) need)
       (is_new setting input steps (labels_of_program t) xs (same_program ls g) need h.few (λ e lt. (h.labels e lt).above) below)
       (λ e a i. (among_entities 0 xs e e i.0 (omega arith), ap (λ b. b || false) (h.labels e i.0).within)))

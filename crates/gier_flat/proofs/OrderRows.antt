@@ -2,9 +2,8 @@
 use Rattle.std.proofs.Common.{◌≡◌, ℕ, suc, ◌+◌, ◌*◌, ◌<◌, true, List, Some, refl, ap, ◌∙◌, arith}
 use Rattle.std.specs.Prelude.{slice_get, ◌^◌, ◌||◌}
 use Rattle.gier_symbol.specs.declared.symbol.Symbol.{Symbol}
-use Rattle.gier_symbol.specs.Texts.{order_base}
 use Rattle.gier_order.specs.declared.operation.Operation.{Operation}
-use Rattle.gier_order.specs.declared.operation.Operation.TheVariants.{Start, Stop, Take, Short, Long, Keep, Addr, Fetch, Put, Add, Sub, Mul, Div, Pow, Neg, Lt, Le, Eq, Ge, Gt, Ne, Not, And, Or, Impl, Equiv, Jump, False, Test, Turn, Block, Leave, Array, Index, Proc, Call, Formal, Return, Thunk, Value, Place, NameL, Pass, Back, Give, Lib, Switch, SwForm, Lab, Go, Base, Kinds, Agree, ByVal, CallF}
+use Rattle.gier_order.specs.declared.operation.Operation.TheVariants.{Start}
 use Rattle.gier_order.specs.declared.order.Order.{Order}
 use Rattle.gier_order.specs.Codes.{order_at, is_row}
 use Rattle.gier_order.specs.Table.{operation_at}
@@ -15,69 +14,13 @@ use Rattle.gier_order.specs.Flat.Run as flat
 use Rattle.gier_order.specs.Flat.Run.{Move, More, Last, Outcome, Over, then_on, exec, Final, with_row, next_state, one}
 use Rattle.gier_order.proofs.Table.{operation_at-number}
 use Rattle.gier_tree.specs.Orders.{State, Following, order, with_label, room_order, number_of}
-use Rattle.gier_tree.specs.Object.{AnOrder, piece_of, address_of, head_of, address_in, need_behind, object_word, object_from, object_of}
+use Rattle.gier_tree.specs.Object.{address_of, head_of, address_in, need_behind, object_word, object_from, object_of}
+use Rattle.gier_complete.proofs.OrderPieces.{piece_is}
 use Rattle.gier_flat.proofs.Positions.{At, word_there}
 use Rattle.gier_flat.proofs.OrderWords.{decoded}
 
 abbrev pub Machine : Type 0
 Machine = flat.State
-
-pub piece_is : (op : Operation) (value line : ℕ) → piece_of (record { tag = order_base + number_of op; value = value; line = line }) ≡ AnOrder (number_of op) value
-piece_is Start value line = refl
-piece_is Stop value line = refl
-piece_is Take value line = refl
-piece_is Short value line = refl
-piece_is Long value line = refl
-piece_is Keep value line = refl
-piece_is Addr value line = refl
-piece_is Fetch value line = refl
-piece_is Put value line = refl
-piece_is Add value line = refl
-piece_is Sub value line = refl
-piece_is Mul value line = refl
-piece_is Div value line = refl
-piece_is Pow value line = refl
-piece_is Neg value line = refl
-piece_is Lt value line = refl
-piece_is Le value line = refl
-piece_is Eq value line = refl
-piece_is Ge value line = refl
-piece_is Gt value line = refl
-piece_is Ne value line = refl
-piece_is Not value line = refl
-piece_is And value line = refl
-piece_is Or value line = refl
-piece_is Impl value line = refl
-piece_is Equiv value line = refl
-piece_is Jump value line = refl
-piece_is False value line = refl
-piece_is Test value line = refl
-piece_is Turn value line = refl
-piece_is Block value line = refl
-piece_is Leave value line = refl
-piece_is Array value line = refl
-piece_is Index value line = refl
-piece_is Proc value line = refl
-piece_is Call value line = refl
-piece_is Formal value line = refl
-piece_is Return value line = refl
-piece_is Thunk value line = refl
-piece_is Value value line = refl
-piece_is Place value line = refl
-piece_is NameL value line = refl
-piece_is Pass value line = refl
-piece_is Back value line = refl
-piece_is Give value line = refl
-piece_is Lib value line = refl
-piece_is Switch value line = refl
-piece_is SwForm value line = refl
-piece_is Lab value line = refl
-piece_is Go value line = refl
-piece_is Base value line = refl
-piece_is Kinds value line = refl
-piece_is Agree value line = refl
-piece_is ByVal value line = refl
-piece_is CallF value line = refl
 
 abbrev pub object : List Symbol → List ℕ
 object text = object_of text

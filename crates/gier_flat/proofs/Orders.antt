@@ -27,8 +27,9 @@ use Rattle.gier_meaning.specs.Tree.{Operator, Adds, Multiplies, Raises, Compares
 use Rattle.gier_meaning.specs.Operators as meaning
 use Rattle.gier_meaning.specs.Operators.{apply_operator}
 use Rattle.gier_tree.specs.Words.{stop_tag, HasStop, PlacesAreAddresses}
+use Rattle.gier_complete.proofs.OrderPieces.{piece_is}
 use Rattle.gier_flat.proofs.Positions.{At, behind, within}
-use Rattle.gier_flat.proofs.OrderRows.{Machine, object, Reach, onward, order_row, labelled_row, piece_is}
+use Rattle.gier_flat.proofs.OrderRows.{Machine, object, Reach, onward, order_row, labelled_row}
 use Rattle.gier_flat.proofs.Numbers.{round_trip, same_truth, truth_word, unequal, alike}
 
 pub needed : (t : Bool) (r : Row) → t ≡ true → needs t r ≡ r

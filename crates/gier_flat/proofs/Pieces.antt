@@ -11,8 +11,8 @@ use Rattle.gier_tree.specs.Orders.{State, Following, Code, order, with_label, de
 use Rattle.gier_tree.specs.Object.{words_of, need_behind, need_at}
 use Rattle.gier_tree.specs.Coded.{choice}
 use Rattle.gier_tree.specs.Words.{words_in, stop_tag}
+use Rattle.gier_complete.proofs.OrderPieces.{piece_is}
 use Rattle.gier_flat.proofs.Positions.{At, NoStop, no_stop_both, words_both}
-use Rattle.gier_flat.proofs.OrderRows.{piece_is}
 
 -- what the symbols of a piece are: their words, that none is STOP, and that needs within them belong to rooms within them
 abbrev Balanced : List Symbol → Type 0

@@ -36,10 +36,11 @@ use Rattle.gier_env.specs.Env.{Env, Denoted, AnEntity, AProcedure, AFormalProced
 use Rattle.gier_env.specs.Tasks.{Next}
 use Rattle.gier_env.specs.Names.{value_of}
 use Rattle.gier_env.specs.Closures.{Closure}
+use Rattle.gier_complete.proofs.OrderPieces.{piece_is}
 use Rattle.gier_flat.specs.Alike.{IsLine}
 use Rattle.gier_tree.specs.Words.{HasStop}
 use Rattle.gier_flat.proofs.Positions.{At}
-use Rattle.gier_flat.proofs.OrderRows.{Machine, object, stopped, piece_is}
+use Rattle.gier_flat.proofs.OrderRows.{Machine, object, stopped}
 use Rattle.gier_flat.proofs.StackRelation.{Known, sort, same_known, Walk, behind_zeros, walked, IsVariable, RunInvariant, RefinesOutcome, Behind, here_after}
 use Rattle.gier_flat.proofs.Composition.{moves, inner, follow_then, wants, WithKeptWord, keeping, Wrote, kept, kept_moves, Stays, stays_after, onwards}
 use Rattle.gier_flat.proofs.Numbers.{same_truth}

@@ -1,19 +1,17 @@
 -- What the law asks of a hoisted program beside that it is of the part of the language for which it is proved.
-use Rattle.std.specs.Prelude.{◌≡◌, ◌<◌, ◌+◌, ◌^◌, ℕ, true, List, length, drop}
-use Rattle.gier_tree.specs.Coded.{scopes_of}
-use Rattle.gier_tree.specs.Need.{need_group}
-use Rattle.gier_tree.specs.Object.{address_of, need_behind}
-use Rattle.gier_tree.specs.Places.{program_places}
+use Rattle.std.specs.Prelude.{◌≡◌, ◌<◌, ◌+◌, ◌^◌, ℕ, true, List, length}
+use Rattle.gier_tree.specs.Object.{address_of}
 use Rattle.gier_tree.specs.Room.{block_header}
 use Rattle.gier_tree.specs.Text7.{code_program}
-use Rattle.gier_tree.specs.Trees.{Program, MkProgram}
+use Rattle.gier_tree.specs.Trees.{Program}
+use Rattle.gier_tree.specs.Words.{words_in, PlacesAreAddresses}
 use Rattle.gier_meaning.specs.Plain.{plain}
 use Rattle.gier_meaning.specs.Scopes.{quantities, labels}
 use Rattle.gier_env.specs.Env.{Env, Outermost, Inside, NoBindings, with_entities}
 use Rattle.gier_env.specs.Standing.{standard_bindings}
 use Rattle.gier_env.specs.Statements.{has}
+use Rattle.gier_complete.specs.Whole.{program_need}
 use Rattle.gier_flat.specs.Fair.{FairProgram}
-use Rattle.gier_tree.specs.Words.{words_in, HasStop, PlacesAreAddresses}
 
 -- the identifiers of the program's own labels, and what identifiers mean in it
 abbrev pub own_labels : Program → List ℕ
@@ -21,10 +19,6 @@ own_labels t = labels (plain t).statement
 
 abbrev pub program_env : Program → Env
 program_env t = Inside (with_entities 0 (quantities (own_labels t)) NoBindings) (Inside standard_bindings Outermost)
-
--- the working words of the program's activation
-abbrev pub program_need : Program → ℕ
-program_need (MkProgram ls g l) = need_group (scopes_of (program_places (MkProgram ls g l))) g
 
 -- the label of this number stands in the program, and its place in the text behind START
 pub record IsLabel (t : Program) (number : ℕ) : Type 0 where
@@ -35,13 +29,11 @@ pub record IsLabel (t : Program) (number : ℕ) : Type 0 where
 pub record Premises (t : Program) : Type 0 where
   -- the part of the language
   pub part : FairProgram t
-  -- its text 7: short, with a STOP, and with the addresses of its labels
+  -- its text 7: short, and with the addresses of its labels
   pub short : words_in (code_program t) < 2 ^ 24
-  pub stop : HasStop (code_program t)
   pub places : PlacesAreAddresses (code_program t)
   -- its room is known
   pub room : block_header + program_need t < 2 ^ 24
-  pub need : need_behind (drop 1 (code_program t)) 0 ≡ program_need t
   -- its labels
   pub few : length (own_labels t) < 2 ^ 24
   pub labels : (number : ℕ) → number < length (own_labels t) → IsLabel t number
