@@ -1,2 +1,6 @@
 pub mod ReadSymbols
 pub mod AssembledSymbols
+pub mod Slack
+pub mod MarkedExpressions
+pub mod MarkedParts
+pub mod MarkedPrograms

@@ -4,4 +4,4 @@
 
 mod laws;
 
-pub use laws::{law_many_symbols, law_symbols};
+pub use laws::{law_many_marks, law_many_symbols, law_symbols, law_text3};
