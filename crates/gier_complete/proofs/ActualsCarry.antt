@@ -10,7 +10,7 @@ use Rattle.gier_tree.specs.Coded.{Part, by_name, then_order, address_of, name_ev
 use Rattle.gier_tree.specs.Coded.{string_actual, value_wanted, values_wanted}
 use Rattle.gier_tree.specs.Orders.{State, Following, Code, order}
 use Rattle.gier_tree.specs.Places.{Placed}
-use Rattle.gier_complete.proofs.EachKind.{each_kind}
+use Rattle.gier_complete.proofs.EachKind.{with_kind, each_kind}
 use Rattle.gier_complete.proofs.Passing.{Claim, IsCarried, Carries, CodeCarries}
 use Rattle.gier_complete.proofs.PiecesCarry.{then_carries, address_carries, by_name_carries}
 use Rattle.gier_complete.proofs.PiecesCarry.{string_carries}
@@ -37,15 +37,15 @@ module _ (P : Claim) (h : IsCarried P) where
   formal_carries l a need line v = by_name_carries P h 3 need line (λ level w s k. order op.Pass l a line s (λ s1. order op.Back 0 0 line s1 k))
       (λ level w m q k st. h.an_order op.Pass tt _ _ m _ _ (h.an_order op.Back tt _ _ m _ _ (k _))) v
 
-  name_by_kind : (count : ℕ) (formals : List Kind) (l a : ℕ) (c : Code) → CodeCarries P c → (need line v n : ℕ) (go : Following) → ((s : State) → P n s (go s)) → (st : State) → (kd : Kind) → P n st (name_evaluation (record { what = record { kind = kd; count = count; formals = formals }; level = l; address = a }) c need line v st go)
-  name_by_kind count formals l a c pc need line v n go k st =
+  name_by_kind : (at : Placed) (c : Code) → CodeCarries P c → (need line v n : ℕ) (go : Following) → ((s : State) → P n s (go s)) → (st : State) → (kd : Kind) → P n st (name_evaluation (with_kind at kd) c need line v st go)
+  name_by_kind at c pc need line v n go k st =
       let other : P n st (by_name 0 need line (then_order op.Back line c) v st go) = by_name_carries P h 0 need line (then_order op.Back line c) (then_carries P h op.Back tt line c pc) v n go k st in
-      let variable : (kd : Kind) → P n st (by_name 1 need line (λ level w s k. address_of (record { what = record { kind = kd; count = count; formals = formals }; level = l; address = a }) line s (λ s1. order op.Give 0 0 line s1 k)) v st go) = λ kd. variable_carries (record { what = record { kind = kd; count = count; formals = formals }; level = l; address = a }) need line v n go k st in
-      let formal : P n st (by_name 3 need line (λ level w s k. order op.Pass l a line s (λ s1. order op.Back 0 0 line s1 k)) v st go) = formal_carries l a need line v n go k st in
-      each_kind (λ kd. P n st (name_evaluation (record { what = record { kind = kd; count = count; formals = formals }; level = l; address = a }) c need line v st go)) other (variable kind.IntegerVariable) (variable kind.BooleanVariable) other other other other other other other (variable kind.IntegerValue) (variable kind.BooleanValue) formal formal other other other other other other other other other other other other other other other other
+      let variable : (kd : Kind) → P n st (by_name 1 need line (λ level w s k. address_of (with_kind at kd) line s (λ s1. order op.Give 0 0 line s1 k)) v st go) = λ kd. variable_carries (with_kind at kd) need line v n go k st in
+      let formal : P n st (by_name 3 need line (λ level w s k. order op.Pass at.level at.address line s (λ s1. order op.Back 0 0 line s1 k)) v st go) = formal_carries at.level at.address need line v n go k st in
+      each_kind (λ kd. P n st (name_evaluation (with_kind at kd) c need line v st go)) other (variable kind.IntegerVariable) (variable kind.BooleanVariable) other other other other other other other (variable kind.IntegerValue) (variable kind.BooleanValue) formal formal other other other other other other other other other other other other other other other other
 
   name_carries : (at : Placed) (c : Code) → CodeCarries P c → (need line v : ℕ) → Carries P (name_evaluation at c need line v)
-  name_carries at c pc need line v n go k st = name_by_kind at.what.count at.what.formals at.level at.address c pc need line v n go k st at.what.kind
+  name_carries at c pc need line v n go k st = name_by_kind at c pc need line v n go k st at.what.kind
 
   pub value_actual : (element : Option Code) (name : Option Placed) (a : Part) → OptionCarries element → PartCarries a → (v : ℕ) → Carries P (value_evaluation element name a v)
   value_actual (Some c) name a pc pa v = by_name_carries P h 1 a.need a.line (then_order op.Give a.line c) (then_carries P h op.Give tt a.line c pc) v

@@ -10,29 +10,33 @@ use Rattle.gier_tree.specs.Coded.{named_actual, string_actual, actual_code, actu
 use Rattle.gier_tree.specs.Coded.{formal_call, declared_call, standard_call, call_code, alone_code, library}
 use Rattle.gier_tree.specs.Orders.{State, Following, order, with_label, data_words}
 use Rattle.gier_tree.specs.Places.{Placed}
-use Rattle.gier_complete.proofs.EachKind.{each_kind}
+use Rattle.gier_complete.proofs.EachKind.{with_kind, each_kind}
 use Rattle.gier_complete.proofs.Passing.{Claim, IsCarried, Carries, CodeCarries}
 use Rattle.gier_complete.proofs.PiecesCarry.{then_carries, value_carries, array_carries, by_name_carries, words_carry, jumped_carries}
 use Rattle.gier_complete.proofs.ActualsCarry.{PartCarries, PartsCarry, value_actual, string_passes, values_wanted_carries}
 
 module _ (P : Claim) (h : IsCarried P) where
-  declared_by_count : (kd : Kind) (formals : List Kind) (l a line n : ℕ) (go : Following) → ((s : State) → P n s (go s)) → (st : State) → (count : ℕ) → P n st (declared_actual (record { what = record { kind = kd; count = count; formals = formals }; level = l; address = a }) line st go)
-  declared_by_count kd formals l a line n go k st zero = h.a_use _ _ n _ _ (k _)
-  declared_by_count kd formals l a line n go k st (suc c) =
-      jumped_carries P h line (λ start s q. with_label op.Kinds (suc c) a line s (λ s1. data_words (packed_kinds (map formal_fitting formals)) line s1 q))
-      (λ start m q r s. h.a_use _ _ m _ _ (words_carry P h (packed_kinds (map formal_fitting formals)) line m q r _)) n
+  declared_by_count : (at : Placed) (line n : ℕ) (go : Following) → ((s : State) → P n s (go s)) → (st : State) → (count : ℕ) → P n st (declared_actual (record { what = record { kind = at.what.kind; count = count; formals = at.what.formals }; level = at.level; address = at.address }) line st go)
+  declared_by_count at line n go k st zero = h.a_use _ _ n _ _ (k _)
+  declared_by_count at line n go k st (suc c) =
+      let kinds = packed_kinds (map formal_fitting at.what.formals) in
+      jumped_carries P h line (λ start s q. with_label op.Kinds (suc c) at.address line s (λ s1. data_words kinds line s1 q))
+      (λ start m q r s. h.a_use _ _ m _ _ (words_carry P h kinds line m q r _)) n
       (λ start s. with_label op.Short 0 start line s go) (λ start s. h.a_use _ _ n _ _ (k _)) st
 
-  entity_by_kind : (count : ℕ) (formals : List Kind) (l a line v n : ℕ) (go : Following) → ((s : State) → P n s (go s)) → (st : State) → (kd : Kind) → P n st (entity_actual (record { what = record { kind = kd; count = count; formals = formals }; level = l; address = a }) line v st go)
-  entity_by_kind count formals l a line v n go k st =
-      let based : (s : State) → P n s (order op.Keep 0 v line s (λ s1. order op.Base l 0 line s1 (λ s2. order op.Keep 0 (v + 1) line s2 go))) = λ s. h.an_order op.Keep tt _ _ n _ _ (h.an_order op.Base tt _ _ n _ _ (h.an_order op.Keep tt _ _ n _ _ (k _))) in
-      let formal : P n st (order op.Take l a line st (λ s. order op.Keep 0 v line s (λ s1. order op.Take l (suc a) line s1 (λ s2. order op.Keep 0 (v + 1) line s2 go)))) = h.an_order op.Take tt _ _ n _ _ (h.an_order op.Keep tt _ _ n _ _ (h.an_order op.Take tt _ _ n _ _ (h.an_order op.Keep tt _ _ n _ _ (k _)))) in
-      let own : P n st (with_label op.Short 0 a line st (λ s. order op.Keep 0 v line s (λ s1. order op.Base l 0 line s1 (λ s2. order op.Keep 0 (v + 1) line s2 go)))) = h.a_use _ _ n _ _ (based _) in
-      let declared : (kd : Kind) → P n st (declared_actual (record { what = record { kind = kd; count = count; formals = formals }; level = l; address = a }) line st (λ s. order op.Keep 0 v line s (λ s1. order op.Base l 0 line s1 (λ s2. order op.Keep 0 (v + 1) line s2 go)))) = λ kd. declared_by_count kd formals l a line n _ based st count in
-      each_kind (λ kd. P n st (entity_actual (record { what = record { kind = kd; count = count; formals = formals }; level = l; address = a }) line v st go)) (declared kind.Undeclared) (declared kind.IntegerVariable) (declared kind.BooleanVariable) (declared kind.IntegerArray) (declared kind.BooleanArray) (declared kind.Label) own (declared kind.Procedure) (declared kind.IntegerProcedure) (declared kind.BooleanProcedure) (declared kind.IntegerValue) (declared kind.BooleanValue) (declared kind.IntegerFormal) (declared kind.BooleanFormal) (declared kind.IntegerArrayFormal) (declared kind.BooleanArrayFormal) (declared kind.LabelFormal) formal (declared kind.StringFormal) formal formal formal (declared kind.OutInteger) (declared kind.OutText) (declared kind.OutCr) (declared kind.OutChar) (declared kind.InInteger) (declared kind.InChar) (declared kind.Abs) (declared kind.Sign)
+  declared_carries : (at : Placed) (line : ℕ) → Carries P (declared_actual at line)
+  declared_carries at line n go k st = declared_by_count at line n go k st at.what.count
+
+  entity_by_kind : (at : Placed) (line v n : ℕ) (go : Following) → ((s : State) → P n s (go s)) → (st : State) → (kd : Kind) → P n st (entity_actual (with_kind at kd) line v st go)
+  entity_by_kind at line v n go k st =
+      let based : (s : State) → P n s (order op.Keep 0 v line s (λ s1. order op.Base at.level 0 line s1 (λ s2. order op.Keep 0 (v + 1) line s2 go))) = λ s. h.an_order op.Keep tt _ _ n _ _ (h.an_order op.Base tt _ _ n _ _ (h.an_order op.Keep tt _ _ n _ _ (k _))) in
+      let formal : P n st (order op.Take at.level at.address line st (λ s. order op.Keep 0 v line s (λ s1. order op.Take at.level (suc at.address) line s1 (λ s2. order op.Keep 0 (v + 1) line s2 go)))) = h.an_order op.Take tt _ _ n _ _ (h.an_order op.Keep tt _ _ n _ _ (h.an_order op.Take tt _ _ n _ _ (h.an_order op.Keep tt _ _ n _ _ (k _)))) in
+      let own : P n st (with_label op.Short 0 at.address line st (λ s. order op.Keep 0 v line s (λ s1. order op.Base at.level 0 line s1 (λ s2. order op.Keep 0 (v + 1) line s2 go)))) = h.a_use _ _ n _ _ (based _) in
+      let declared : (kd : Kind) → P n st (declared_actual (with_kind at kd) line st (λ s. order op.Keep 0 v line s (λ s1. order op.Base at.level 0 line s1 (λ s2. order op.Keep 0 (v + 1) line s2 go)))) = λ kd. declared_carries (with_kind at kd) line n _ based st in
+      each_kind (λ kd. P n st (entity_actual (with_kind at kd) line v st go)) (declared kind.Undeclared) (declared kind.IntegerVariable) (declared kind.BooleanVariable) (declared kind.IntegerArray) (declared kind.BooleanArray) (declared kind.Label) own (declared kind.Procedure) (declared kind.IntegerProcedure) (declared kind.BooleanProcedure) (declared kind.IntegerValue) (declared kind.BooleanValue) (declared kind.IntegerFormal) (declared kind.BooleanFormal) (declared kind.IntegerArrayFormal) (declared kind.BooleanArrayFormal) (declared kind.LabelFormal) formal (declared kind.StringFormal) formal formal formal (declared kind.OutInteger) (declared kind.OutText) (declared kind.OutCr) (declared kind.OutChar) (declared kind.InInteger) (declared kind.InChar) (declared kind.Abs) (declared kind.Sign)
 
   entity_carries : (at : Placed) (line v : ℕ) → Carries P (entity_actual at line v)
-  entity_carries at line v n go k st = entity_by_kind at.what.count at.what.formals at.level at.address line v n go k st at.what.kind
+  entity_carries at line v n go k st = entity_by_kind at line v n go k st at.what.kind
 
   named_carries : (n : ℕ) (st : State) (name : Option Placed) (f : Placed → List Symbol) (otherwise : List Symbol) → ((at : Placed) → P n st (f at)) → P n st otherwise → P n st (named_actual name f otherwise)
   named_carries n st None f otherwise pf po = po
@@ -76,21 +80,21 @@ module _ (P : Claim) (h : IsCarried P) where
   standard_carries kd line [] all level w n go k st = h.an_order op.Lib tt _ _ n _ _ (k _)
   standard_carries kd line (a ∷ more) all level w n go k st = standard_by_kind line a more all.0 level w n go k st kd
 
-  call_by_kind : (count : ℕ) (formals : List Kind) (l a line : ℕ) (parts : List Part) → PartsCarry P h parts → (level w n : ℕ) (go : Following) → ((s : State) → P n s (go s)) → (st : State) → (kd : Kind) → P n st (call_code (record { what = record { kind = kd; count = count; formals = formals }; level = l; address = a }) line parts level w st go)
-  call_by_kind count formals l a line parts all level w n go k st =
-      let declared : (kd : Kind) → P n st (declared_call (record { what = record { kind = kd; count = count; formals = formals }; level = l; address = a }) line parts level w st go) = λ kd. declared_call_carries (record { what = record { kind = kd; count = count; formals = formals }; level = l; address = a }) line parts all level w n go k st in
-      let formal : (kd : Kind) → P n st (formal_call (record { what = record { kind = kd; count = count; formals = formals }; level = l; address = a }) line parts level w st go) = λ kd. formal_call_carries (record { what = record { kind = kd; count = count; formals = formals }; level = l; address = a }) line parts all level w n go k st in
+  call_by_kind : (at : Placed) (line : ℕ) (parts : List Part) → PartsCarry P h parts → (level w n : ℕ) (go : Following) → ((s : State) → P n s (go s)) → (st : State) → (kd : Kind) → P n st (call_code (with_kind at kd) line parts level w st go)
+  call_by_kind at line parts all level w n go k st =
+      let declared : (kd : Kind) → P n st (declared_call (with_kind at kd) line parts level w st go) = λ kd. declared_call_carries (with_kind at kd) line parts all level w n go k st in
+      let formal : (kd : Kind) → P n st (formal_call (with_kind at kd) line parts level w st go) = λ kd. formal_call_carries (with_kind at kd) line parts all level w n go k st in
       let standard : (kd : Kind) → P n st (standard_call kd line parts level w st go) = λ kd. standard_carries kd line parts all level w n go k st in
-      each_kind (λ kd. P n st (call_code (record { what = record { kind = kd; count = count; formals = formals }; level = l; address = a }) line parts level w st go)) (standard kind.Undeclared) (standard kind.IntegerVariable) (standard kind.BooleanVariable) (standard kind.IntegerArray) (standard kind.BooleanArray) (standard kind.Label) (standard kind.Switch) (declared kind.Procedure) (declared kind.IntegerProcedure) (declared kind.BooleanProcedure) (standard kind.IntegerValue) (standard kind.BooleanValue) (standard kind.IntegerFormal) (standard kind.BooleanFormal) (standard kind.IntegerArrayFormal) (standard kind.BooleanArrayFormal) (standard kind.LabelFormal) (standard kind.SwitchFormal) (standard kind.StringFormal) (formal kind.ProcedureFormal) (formal kind.IntegerProcedureFormal) (formal kind.BooleanProcedureFormal) (standard kind.OutInteger) (standard kind.OutText) (standard kind.OutCr) (standard kind.OutChar) (standard kind.InInteger) (standard kind.InChar) (standard kind.Abs) (standard kind.Sign)
+      each_kind (λ kd. P n st (call_code (with_kind at kd) line parts level w st go)) (standard kind.Undeclared) (standard kind.IntegerVariable) (standard kind.BooleanVariable) (standard kind.IntegerArray) (standard kind.BooleanArray) (standard kind.Label) (standard kind.Switch) (declared kind.Procedure) (declared kind.IntegerProcedure) (declared kind.BooleanProcedure) (standard kind.IntegerValue) (standard kind.BooleanValue) (standard kind.IntegerFormal) (standard kind.BooleanFormal) (standard kind.IntegerArrayFormal) (standard kind.BooleanArrayFormal) (standard kind.LabelFormal) (standard kind.SwitchFormal) (standard kind.StringFormal) (formal kind.ProcedureFormal) (formal kind.IntegerProcedureFormal) (formal kind.BooleanProcedureFormal) (standard kind.OutInteger) (standard kind.OutText) (standard kind.OutCr) (standard kind.OutChar) (standard kind.InInteger) (standard kind.InChar) (standard kind.Abs) (standard kind.Sign)
 
   pub call_carries : (at : Placed) (line : ℕ) (parts : List Part) → PartsCarry P h parts → CodeCarries P (call_code at line parts)
-  call_carries at line parts all level w n go k st = call_by_kind at.what.count at.what.formals at.level at.address line parts all level w n go k st at.what.kind
+  call_carries at line parts all level w n go k st = call_by_kind at line parts all level w n go k st at.what.kind
 
-  alone_by_kind : (count : ℕ) (formals : List Kind) (l a line level w n : ℕ) (go : Following) → ((s : State) → P n s (go s)) → (st : State) → (kd : Kind) → P n st (alone_code (record { what = record { kind = kd; count = count; formals = formals }; level = l; address = a }) line level w st go)
-  alone_by_kind count formals l a line level w n go k st =
-      let taken : (kd : Kind) → P n st (value_of (record { what = record { kind = kd; count = count; formals = formals }; level = l; address = a }) line st go) = λ kd. value_carries P h (record { what = record { kind = kd; count = count; formals = formals }; level = l; address = a }) line n go k st in
-      let called : (kd : Kind) → P n st (call_code (record { what = record { kind = kd; count = count; formals = formals }; level = l; address = a }) line [] level w st go) = λ kd. call_carries (record { what = record { kind = kd; count = count; formals = formals }; level = l; address = a }) line [] tt level w n go k st in
-      each_kind (λ kd. P n st (alone_code (record { what = record { kind = kd; count = count; formals = formals }; level = l; address = a }) line level w st go)) (called kind.Undeclared) (taken kind.IntegerVariable) (taken kind.BooleanVariable) (called kind.IntegerArray) (called kind.BooleanArray) (called kind.Label) (called kind.Switch) (called kind.Procedure) (called kind.IntegerProcedure) (called kind.BooleanProcedure) (taken kind.IntegerValue) (taken kind.BooleanValue) (taken kind.IntegerFormal) (taken kind.BooleanFormal) (called kind.IntegerArrayFormal) (called kind.BooleanArrayFormal) (called kind.LabelFormal) (called kind.SwitchFormal) (called kind.StringFormal) (called kind.ProcedureFormal) (called kind.IntegerProcedureFormal) (called kind.BooleanProcedureFormal) (called kind.OutInteger) (called kind.OutText) (called kind.OutCr) (called kind.OutChar) (called kind.InInteger) (called kind.InChar) (called kind.Abs) (called kind.Sign)
+  alone_by_kind : (at : Placed) (line level w n : ℕ) (go : Following) → ((s : State) → P n s (go s)) → (st : State) → (kd : Kind) → P n st (alone_code (with_kind at kd) line level w st go)
+  alone_by_kind at line level w n go k st =
+      let taken : (kd : Kind) → P n st (value_of (with_kind at kd) line st go) = λ kd. value_carries P h (with_kind at kd) line n go k st in
+      let called : (kd : Kind) → P n st (call_code (with_kind at kd) line [] level w st go) = λ kd. call_carries (with_kind at kd) line [] tt level w n go k st in
+      each_kind (λ kd. P n st (alone_code (with_kind at kd) line level w st go)) (called kind.Undeclared) (taken kind.IntegerVariable) (taken kind.BooleanVariable) (called kind.IntegerArray) (called kind.BooleanArray) (called kind.Label) (called kind.Switch) (called kind.Procedure) (called kind.IntegerProcedure) (called kind.BooleanProcedure) (taken kind.IntegerValue) (taken kind.BooleanValue) (taken kind.IntegerFormal) (taken kind.BooleanFormal) (called kind.IntegerArrayFormal) (called kind.BooleanArrayFormal) (called kind.LabelFormal) (called kind.SwitchFormal) (called kind.StringFormal) (called kind.ProcedureFormal) (called kind.IntegerProcedureFormal) (called kind.BooleanProcedureFormal) (called kind.OutInteger) (called kind.OutText) (called kind.OutCr) (called kind.OutChar) (called kind.InInteger) (called kind.InChar) (called kind.Abs) (called kind.Sign)
 
   pub alone_carries : (at : Placed) (line : ℕ) → CodeCarries P (alone_code at line)
-  alone_carries at line level w n go k st = alone_by_kind at.what.count at.what.formals at.level at.address line level w n go k st at.what.kind
+  alone_carries at line level w n go k st = alone_by_kind at line level w n go k st at.what.kind

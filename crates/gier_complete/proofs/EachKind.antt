@@ -1,4 +1,4 @@
--- A claim on each kind, from one proof for each.
+-- A claim on each kind, from one proof for each; and a placed quantity with another kind.
 use Rattle.gier_tree.specs.declared.kind.Kind.{Kind}
 use Rattle.gier_tree.specs.declared.kind.Kind.TheVariants.{Undeclared, IntegerVariable, BooleanVariable, IntegerArray}
 use Rattle.gier_tree.specs.declared.kind.Kind.TheVariants.{BooleanArray, Label, Switch, Procedure, IntegerProcedure}
@@ -7,6 +7,10 @@ use Rattle.gier_tree.specs.declared.kind.Kind.TheVariants.{BooleanFormal, Intege
 use Rattle.gier_tree.specs.declared.kind.Kind.TheVariants.{SwitchFormal, StringFormal, ProcedureFormal, IntegerProcedureFormal}
 use Rattle.gier_tree.specs.declared.kind.Kind.TheVariants.{BooleanProcedureFormal, OutInteger, OutText, OutCr, OutChar}
 use Rattle.gier_tree.specs.declared.kind.Kind.TheVariants.{InInteger, InChar, Abs, Sign}
+use Rattle.gier_tree.specs.Places.{Placed}
+
+abbrev pub with_kind : Placed → Kind → Placed
+with_kind at kind = record { what = record { kind = kind; count = at.what.count; formals = at.what.formals }; level = at.level; address = at.address }
 
 pub each_kind : (Q : Kind → Type 0) → Q Undeclared → Q IntegerVariable → Q BooleanVariable → Q IntegerArray → Q BooleanArray → Q Label → Q Switch → Q Procedure → Q IntegerProcedure → Q BooleanProcedure → Q IntegerValue → Q BooleanValue → Q IntegerFormal → Q BooleanFormal → Q IntegerArrayFormal → Q BooleanArrayFormal → Q LabelFormal → Q SwitchFormal → Q StringFormal → Q ProcedureFormal → Q IntegerProcedureFormal → Q BooleanProcedureFormal → Q OutInteger → Q OutText → Q OutCr → Q OutChar → Q InInteger → Q InChar → Q Abs → Q Sign → (k : Kind) → Q k
 each_kind Q x0 q1 q2 q3 q4 q5 q6 q7 q8 q9 q10 q11 q12 q13 q14 q15 q16 q17 q18 q19 q20 q21 q22 q23 q24 q25 q26 q27 q28 q29 Undeclared = x0

@@ -16,7 +16,7 @@ use Rattle.gier_tree.specs.Trees.{Raised, Primary, Numeral, Logical, Bracketed, 
 use Rattle.gier_tree.specs.Trees.{Subscripted, Actual, OneExpr, AString, Actuals, NoActuals, MoreActuals, Exprs, NoExprs}
 use Rattle.gier_tree.specs.Trees.{MoreExprs}
 use Rattle.gier_complete.proofs.Passing.{IsNoStop, Claim, IsCarried, CodeCarries}
-use Rattle.gier_complete.proofs.PiecesCarry.{both_carries, then_carries, choice_carries, sign_carries, number_carries, AllCarry}
+use Rattle.gier_complete.proofs.PiecesCarry.{nothing_carries, both_carries, then_carries, choice_carries, sign_carries, number_carries, AllCarry}
 use Rattle.gier_complete.proofs.PiecesCarry.{element_carries, label_carries, switch_carries}
 use Rattle.gier_complete.proofs.ActualsCarry.{OptionCarries, PartCarries, PartsCarry}
 use Rattle.gier_complete.proofs.CallsCarry.{call_carries, alone_carries}
@@ -120,29 +120,29 @@ module _ (P : Claim) (h : IsCarried P) (p : Places) where
     label_value_carries (IfExpr l c m s n e) = choice_carries P h l (code_expr p c) (code_simple_label p s) (code_label p e) (expr_carries c) (simple_label_carries s) (label_value_carries e)
 
     simple_label_carries : (s : Simple) → CodeCarries P (code_simple_label p s)
-    simple_label_carries (Equivalent s l i) = λ level w n go k. k
-    simple_label_carries (OneImplication (Implies i l d)) = λ level w n go k. k
-    simple_label_carries (OneImplication (OneDisjunction (Either d l c))) = λ level w n go k. k
-    simple_label_carries (OneImplication (OneDisjunction (OneConjunction (Both c l n)))) = λ level w n go k. k
-    simple_label_carries (OneImplication (OneDisjunction (OneConjunction (OneNegation (Negated l r))))) = λ level w n go k. k
-    simple_label_carries (OneImplication (OneDisjunction (OneConjunction (OneNegation (OneRelation (Compared a o l b)))))) = λ level w n go k. k
-    simple_label_carries (OneImplication (OneDisjunction (OneConjunction (OneNegation (OneRelation (OneArithmetic (Signed o l t))))))) = λ level w n go k. k
-    simple_label_carries (OneImplication (OneDisjunction (OneConjunction (OneNegation (OneRelation (OneArithmetic (Summed a o l t))))))) = λ level w n go k. k
-    simple_label_carries (OneImplication (OneDisjunction (OneConjunction (OneNegation (OneRelation (OneArithmetic (OneTerm (Multiplied t o l f)))))))) = λ level w n go k. k
-    simple_label_carries (OneImplication (OneDisjunction (OneConjunction (OneNegation (OneRelation (OneArithmetic (OneTerm (OneFactor (Raised f l q))))))))) = λ level w n go k. k
+    simple_label_carries (Equivalent s l i) = nothing_carries P h
+    simple_label_carries (OneImplication (Implies i l d)) = nothing_carries P h
+    simple_label_carries (OneImplication (OneDisjunction (Either d l c))) = nothing_carries P h
+    simple_label_carries (OneImplication (OneDisjunction (OneConjunction (Both c l n)))) = nothing_carries P h
+    simple_label_carries (OneImplication (OneDisjunction (OneConjunction (OneNegation (Negated l r))))) = nothing_carries P h
+    simple_label_carries (OneImplication (OneDisjunction (OneConjunction (OneNegation (OneRelation (Compared a o l b)))))) = nothing_carries P h
+    simple_label_carries (OneImplication (OneDisjunction (OneConjunction (OneNegation (OneRelation (OneArithmetic (Signed o l t))))))) = nothing_carries P h
+    simple_label_carries (OneImplication (OneDisjunction (OneConjunction (OneNegation (OneRelation (OneArithmetic (Summed a o l t))))))) = nothing_carries P h
+    simple_label_carries (OneImplication (OneDisjunction (OneConjunction (OneNegation (OneRelation (OneArithmetic (OneTerm (Multiplied t o l f)))))))) = nothing_carries P h
+    simple_label_carries (OneImplication (OneDisjunction (OneConjunction (OneNegation (OneRelation (OneArithmetic (OneTerm (OneFactor (Raised f l q))))))))) = nothing_carries P h
     simple_label_carries (OneImplication (OneDisjunction (OneConjunction (OneNegation (OneRelation (OneArithmetic (OneTerm (OneFactor (OnePrimary q))))))))) = primary_label_carries q
 
     primary_label_carries : (q : Primary) → CodeCarries P (code_primary_label p q)
-    primary_label_carries (Numeral n l) = λ level w n go k. k
-    primary_label_carries (Logical b l) = λ level w n go k. k
+    primary_label_carries (Numeral n l) = nothing_carries P h
+    primary_label_carries (Logical b l) = nothing_carries P h
     primary_label_carries (Bracketed l e m) = label_value_carries e
     primary_label_carries (OneCall (Alone x)) = label_carries P h (p x.number) x.line
-    primary_label_carries (OneCall (WithActuals x l a more m)) = λ level w n go k. k
+    primary_label_carries (OneCall (WithActuals x l a more m)) = nothing_carries P h
     primary_label_carries (OneElement (Subscripted x l e es m)) = switch_carries P h (p x.number) x.line (code_expr p e) (expr_carries e)
 
     part_carries : (a : Actual) → PartCarries P h (part_of p a)
     part_carries (OneExpr e) = record { value = expr_carries e; label = label_value_carries e; element = address_of_carries e }
-    part_carries (AString l bs m) = record { value = λ level w n go k. k; label = λ level w n go k. k; element = tt }
+    part_carries (AString l bs m) = record { value = nothing_carries P h; label = nothing_carries P h; element = tt }
 
     parts_carry : (more : Actuals) → PartsCarry P h (parts_of p more)
     parts_carry NoActuals = tt

@@ -7,14 +7,17 @@ use Rattle.gier_order.specs.declared.operation.Operation.TheVariants as op
 use Rattle.gier_tree.specs.declared.kind.Kind.{Kind}
 use Rattle.gier_tree.specs.Coded.{both, then_order, sign_code, number_code, choice, address_of, value_of, array_of, subscripts_code}
 use Rattle.gier_tree.specs.Coded.{element_code, label_code, switch_code, evaluation, by_name, string_code, string_words}
-use Rattle.gier_tree.specs.Orders.{State, Following, Code, number_of, order, with_label, data_words, jumped_over}
+use Rattle.gier_tree.specs.Orders.{State, Following, Code, no_code, number_of, order, with_label, data_words, jumped_over}
 use Rattle.gier_tree.specs.Places.{Placed}
 use Rattle.gier_tree.specs.Room.{call_header}
 use Rattle.gier_tree.specs.Trees.{Adding, Add, Subtract}
-use Rattle.gier_complete.proofs.EachKind.{each_kind}
+use Rattle.gier_complete.proofs.EachKind.{with_kind, each_kind}
 use Rattle.gier_complete.proofs.Passing.{IsNoStop, Claim, IsCarried, Carries, CodeCarries}
 
 module _ (P : Claim) (h : IsCarried P) where
+  pub nothing_carries : CodeCarries P no_code
+  nothing_carries level w n go k = k
+
   pub both_carries : (o : Operation) → IsNoStop o → (line : ℕ) (a b : Code) → CodeCarries P a → CodeCarries P b → CodeCarries P (both o line a b)
   both_carries o other line a b pa pb level w n go k =
       pa level w n _ (λ s. h.an_order op.Keep tt _ _ n _ _ (pb level (w + 1) n _ (λ s2. h.an_order o other _ _ n _ _ (k _)) _))
@@ -35,51 +38,51 @@ module _ (P : Claim) (h : IsCarried P) where
   number_carries true value line level w n go k st = h.an_order op.Short tt _ _ n _ _ (k _)
   number_carries false value line level w n go k st = h.an_order op.Long tt _ _ n _ _ (h.a_word _ _ n _ _ (k _))
 
-  address_by_kind : (count : ℕ) (formals : List Kind) (l a line n : ℕ) (go : Following) → ((s : State) → P n s (go s)) → (st : State) → (kind : Kind) → P n st (address_of (record { what = record { kind = kind; count = count; formals = formals }; level = l; address = a }) line st go)
-  address_by_kind count formals l a line n go k st =
-      let other : P n st (order op.Addr (l) (a) line st go) = h.an_order op.Addr tt _ _ n _ _ (k _) in
-      let formal : P n st (order op.Place (l) (a) line st go) = h.an_order op.Place tt _ _ n _ _ (k _) in
-      let called : P n st (order op.Addr (suc l) (call_header) line st go) = h.an_order op.Addr tt _ _ n _ _ (k _) in
-      each_kind (λ kind. P n st (address_of (record { what = record { kind = kind; count = count; formals = formals }; level = l; address = a }) line st go)) other other other other other other other other called called other other formal formal other other other other other other other other other other other other other other other other
+  address_by_kind : (at : Placed) (line n : ℕ) (go : Following) → ((s : State) → P n s (go s)) → (st : State) → (kind : Kind) → P n st (address_of (with_kind at kind) line st go)
+  address_by_kind at line n go k st =
+      let other : P n st (order op.Addr at.level at.address line st go) = h.an_order op.Addr tt _ _ n _ _ (k _) in
+      let formal : P n st (order op.Place at.level at.address line st go) = h.an_order op.Place tt _ _ n _ _ (k _) in
+      let called : P n st (order op.Addr (suc at.level) call_header line st go) = h.an_order op.Addr tt _ _ n _ _ (k _) in
+      each_kind (λ kind. P n st (address_of (with_kind at kind) line st go)) other other other other other other other other called called other other formal formal other other other other other other other other other other other other other other other other
 
   pub address_carries : (at : Placed) (line : ℕ) → Carries P (address_of at line)
-  address_carries at line n go k st = address_by_kind at.what.count at.what.formals at.level at.address line n go k st at.what.kind
+  address_carries at line n go k st = address_by_kind at line n go k st at.what.kind
 
-  value_by_kind : (count : ℕ) (formals : List Kind) (l a line n : ℕ) (go : Following) → ((s : State) → P n s (go s)) → (st : State) → (kind : Kind) → P n st (value_of (record { what = record { kind = kind; count = count; formals = formals }; level = l; address = a }) line st go)
-  value_by_kind count formals l a line n go k st =
-      let other : P n st (order op.Take (l) (a) line st go) = h.an_order op.Take tt _ _ n _ _ (k _) in
-      let formal : P n st (order op.Value (l) (a) line st go) = h.an_order op.Value tt _ _ n _ _ (k _) in
-      each_kind (λ kind. P n st (value_of (record { what = record { kind = kind; count = count; formals = formals }; level = l; address = a }) line st go)) other other other other other other other other other other other other formal formal other other other other other other other other other other other other other other other other
+  value_by_kind : (at : Placed) (line n : ℕ) (go : Following) → ((s : State) → P n s (go s)) → (st : State) → (kind : Kind) → P n st (value_of (with_kind at kind) line st go)
+  value_by_kind at line n go k st =
+      let other : P n st (order op.Take at.level at.address line st go) = h.an_order op.Take tt _ _ n _ _ (k _) in
+      let formal : P n st (order op.Value at.level at.address line st go) = h.an_order op.Value tt _ _ n _ _ (k _) in
+      each_kind (λ kind. P n st (value_of (with_kind at kind) line st go)) other other other other other other other other other other other other formal formal other other other other other other other other other other other other other other other other
 
   pub value_carries : (at : Placed) (line : ℕ) → Carries P (value_of at line)
-  value_carries at line n go k st = value_by_kind at.what.count at.what.formals at.level at.address line n go k st at.what.kind
+  value_carries at line n go k st = value_by_kind at line n go k st at.what.kind
 
-  array_by_kind : (count : ℕ) (formals : List Kind) (l a line n : ℕ) (go : Following) → ((s : State) → P n s (go s)) → (st : State) → (kind : Kind) → P n st (array_of (record { what = record { kind = kind; count = count; formals = formals }; level = l; address = a }) line st go)
-  array_by_kind count formals l a line n go k st =
-      let other : P n st (order op.Addr (l) (a) line st go) = h.an_order op.Addr tt _ _ n _ _ (k _) in
-      let formal : P n st (order op.Take (l) (a) line st go) = h.an_order op.Take tt _ _ n _ _ (k _) in
-      each_kind (λ kind. P n st (array_of (record { what = record { kind = kind; count = count; formals = formals }; level = l; address = a }) line st go)) other other other other other other other other other other other other other other formal formal other other other other other other other other other other other other other other
+  array_by_kind : (at : Placed) (line n : ℕ) (go : Following) → ((s : State) → P n s (go s)) → (st : State) → (kind : Kind) → P n st (array_of (with_kind at kind) line st go)
+  array_by_kind at line n go k st =
+      let other : P n st (order op.Addr at.level at.address line st go) = h.an_order op.Addr tt _ _ n _ _ (k _) in
+      let formal : P n st (order op.Take at.level at.address line st go) = h.an_order op.Take tt _ _ n _ _ (k _) in
+      each_kind (λ kind. P n st (array_of (with_kind at kind) line st go)) other other other other other other other other other other other other other other formal formal other other other other other other other other other other other other other other
 
   pub array_carries : (at : Placed) (line : ℕ) → Carries P (array_of at line)
-  array_carries at line n go k st = array_by_kind at.what.count at.what.formals at.level at.address line n go k st at.what.kind
+  array_carries at line n go k st = array_by_kind at line n go k st at.what.kind
 
-  label_of : (count : ℕ) (formals : List Kind) (l a line level w n : ℕ) (go : Following) → ((s : State) → P n s (go s)) → (st : State) → (kind : Kind) → P n st (label_code (record { what = record { kind = kind; count = count; formals = formals }; level = l; address = a }) line level w st go)
-  label_of count formals l a line level w n go k st =
-      let other : P n st (order op.NameL l a line st go) = h.an_order op.NameL tt _ _ n _ _ (k _) in
-      let own : P n st (with_label op.Lab l a line st go) = h.a_use _ _ n _ _ (k _) in
-      each_kind (λ kind. P n st (label_code (record { what = record { kind = kind; count = count; formals = formals }; level = l; address = a }) line level w st go)) other other other other other own other other other other other other other other other other other other other other other other other other other other other other other other
+  label_of : (at : Placed) (line level w n : ℕ) (go : Following) → ((s : State) → P n s (go s)) → (st : State) → (kind : Kind) → P n st (label_code (with_kind at kind) line level w st go)
+  label_of at line level w n go k st =
+      let other : P n st (order op.NameL at.level at.address line st go) = h.an_order op.NameL tt _ _ n _ _ (k _) in
+      let own : P n st (with_label op.Lab at.level at.address line st go) = h.a_use _ _ n _ _ (k _) in
+      each_kind (λ kind. P n st (label_code (with_kind at kind) line level w st go)) other other other other other own other other other other other other other other other other other other other other other other other other other other other other other other
 
   pub label_carries : (at : Placed) (line : ℕ) → CodeCarries P (label_code at line)
-  label_carries at line level w n go k st = label_of at.what.count at.what.formals at.level at.address line level w n go k st at.what.kind
+  label_carries at line level w n go k st = label_of at line level w n go k st at.what.kind
 
-  switch_of : (count : ℕ) (formals : List Kind) (l a line : ℕ) (c : Code) → CodeCarries P c → (level w n : ℕ) (go : Following) → ((s : State) → P n s (go s)) → (st : State) → (kind : Kind) → P n st (switch_code (record { what = record { kind = kind; count = count; formals = formals }; level = l; address = a }) line c level w st go)
-  switch_of count formals l a line c pc level w n go k st =
-      let other : P n st (c level w st (λ s. order op.SwForm l a line s go)) = pc level w n _ (λ s. h.an_order op.SwForm tt _ _ n _ _ (k _)) st in
-      let own : P n st (c level w st (λ s. with_label op.Switch l a line s go)) = pc level w n _ (λ s. h.a_use _ _ n _ _ (k _)) st in
-      each_kind (λ kind. P n st (switch_code (record { what = record { kind = kind; count = count; formals = formals }; level = l; address = a }) line c level w st go)) other other other other other other own other other other other other other other other other other other other other other other other other other other other other other other
+  switch_of : (at : Placed) (line : ℕ) (c : Code) → CodeCarries P c → (level w n : ℕ) (go : Following) → ((s : State) → P n s (go s)) → (st : State) → (kind : Kind) → P n st (switch_code (with_kind at kind) line c level w st go)
+  switch_of at line c pc level w n go k st =
+      let other : P n st (c level w st (λ s. order op.SwForm at.level at.address line s go)) = pc level w n _ (λ s. h.an_order op.SwForm tt _ _ n _ _ (k _)) st in
+      let own : P n st (c level w st (λ s. with_label op.Switch at.level at.address line s go)) = pc level w n _ (λ s. h.a_use _ _ n _ _ (k _)) st in
+      each_kind (λ kind. P n st (switch_code (with_kind at kind) line c level w st go)) other other other other other other own other other other other other other other other other other other other other other other other other other other other other other other
 
   pub switch_carries : (at : Placed) (line : ℕ) (c : Code) → CodeCarries P c → CodeCarries P (switch_code at line c)
-  switch_carries at line c pc level w n go k st = switch_of at.what.count at.what.formals at.level at.address line c pc level w n go k st at.what.kind
+  switch_carries at line c pc level w n go k st = switch_of at line c pc level w n go k st at.what.kind
 
   -- codes in a list
   abbrev pub AllCarry : List Code → Type 0

@@ -19,7 +19,7 @@ use Rattle.gier_tree.specs.Trees.{Statements, NoStatements, MoreStatements, Stat
 use Rattle.gier_tree.specs.Trees.{Unconditional, MkUnconditional, Basic, OneGroup, Assign, Jump, CallStatement, Dummy}
 use Rattle.gier_tree.specs.Trees.{Conditional, IfThen, IfElse, IfLoop, Loop, MkLoop}
 use Rattle.gier_complete.proofs.Passing.{Claim, IsCarried, CodeCarries}
-use Rattle.gier_complete.proofs.PiecesCarry.{then_carries}
+use Rattle.gier_complete.proofs.PiecesCarry.{nothing_carries, then_carries}
 use Rattle.gier_complete.proofs.ExpressionsCarry.{expr_carries, code_call_carries, label_value_carries}
 use Rattle.gier_complete.proofs.ConstructsCarry.{also_carries, if_carries, if_else_carries, block_carries, labels_carry}
 use Rattle.gier_complete.proofs.ConstructsCarry.{assignment_carries, for_carries, segment_carries, segments_carry}
@@ -28,10 +28,10 @@ use Rattle.gier_complete.proofs.ConstructsCarry.{switch_declared_carries, proced
 module _ (P : Claim) (h : IsCarried P) where
   mutual
     declaration_carries : (p : Places) (at : Where) (d : Declaration) → CodeCarries P (code_declaration p at d)
-    declaration_carries p at (DeclareType y ns) = λ level w n go k. k
-    declaration_carries p at (DeclareOwn l y ns) = λ level w n go k. k
+    declaration_carries p at (DeclareType y ns) = nothing_carries P h
+    declaration_carries p at (DeclareOwn l y ns) = nothing_carries P h
     declaration_carries p at (DeclareArrays y l s ss) = also_carries P h (segment_code p s) (segments_code p ss) (segment_carries P h p s) (segments_carry P h p ss)
-    declaration_carries p at (DeclareOwnArrays o y l s ss) = λ level w n go k. k
+    declaration_carries p at (DeclareOwnArrays o y l s ss) = nothing_carries P h
     declaration_carries p at (DeclareSwitch l x m e es) = λ level w. switch_declared_carries P h p l x (e ∷ elements_of es)
     declaration_carries p at (DeclareProcedure g s) =
         let q = procedure_places (suc at.level) at.numbers g s p in
@@ -39,7 +39,7 @@ module _ (P : Claim) (h : IsCarried P) where
         (code_statement q (inner at (procedure_entries g s)) s) (statement_carries q (inner at (procedure_entries g s)) s)
 
     declarations_carry : (p : Places) (at : Where) (ds : Declarations) → CodeCarries P (code_declarations p at ds)
-    declarations_carry p at NoDeclarations = λ level w n go k. k
+    declarations_carry p at NoDeclarations = nothing_carries P h
     declarations_carry p at (MoreDeclarations d l ds) =
         also_carries P h (code_declaration p at d) (code_declarations p (behind_declaration at d) ds) (declaration_carries p at d)
         (declarations_carry p (behind_declaration at d) ds)
@@ -62,7 +62,7 @@ module _ (P : Claim) (h : IsCarried P) where
         (statements_carry p (behind_statement at s) ss)
 
     statements_carry : (p : Places) (at : Where) (ss : Statements) → CodeCarries P (code_statements p at ss)
-    statements_carry p at NoStatements = λ level w n go k. k
+    statements_carry p at NoStatements = nothing_carries P h
     statements_carry p at (MoreStatements l s ss) =
         also_carries P h (code_statement p at s) (code_statements p (behind_statement at s) ss) (statement_carries p at s)
         (statements_carry p (behind_statement at s) ss)
@@ -80,7 +80,7 @@ module _ (P : Claim) (h : IsCarried P) where
     basic_carries p at (Assign q qs e) = assignment_carries P h p q qs e
     basic_carries p at (Jump l e) = then_carries P h op.Go tt l (code_label p e) (label_value_carries P h p e)
     basic_carries p at (CallStatement c) = code_call_carries P h p c
-    basic_carries p at Dummy = λ level w n go k. k
+    basic_carries p at Dummy = nothing_carries P h
 
     conditional_carries : (p : Places) (at : Where) (c : Conditional) → CodeCarries P (code_conditional p at c)
     conditional_carries p at (IfThen ls l e m u) =
