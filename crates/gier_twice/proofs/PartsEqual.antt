@@ -8,6 +8,7 @@ use Rattle.gier_tree.specs.Declaring.{list_of, labels_of_statement, labels_of_pr
 use Rattle.gier_tree.specs.Described as scope
 use Rattle.gier_tree.specs.Hoist as hoist
 use Rattle.gier_tree.specs.Lines.{first_program, first_heading, first_name, group_begin}
+use Rattle.gier_tree.specs.Texts.{fixed_count}
 use Rattle.gier_tree.specs.Trees as tree
 use Rattle.gier_tree.specs.Trees.{LabelPlace, MkHeading, MkNames, MkProgram, MkBlock, MkCompound, TypeWord, ValueType, IntegerType, BooleanType}
 use Rattle.gier_meaning.specs.Plain as plain
@@ -92,3 +93,6 @@ lines_equal = record {
         (ss : List tree.Specification) → plain.heading_line type l ≡ first_heading (MkHeading type l x fs m vs ss)
     heading None l x fs m vs ss = refl
     heading (Some t) l x fs m vs ss = refl
+
+pub counts_equal : (s : tree.FixedSegment) → hoist.count_fixed s ≡ fixed_count s
+counts_equal (tree.MkFixed ns l p ps m) = refl

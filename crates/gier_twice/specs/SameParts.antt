@@ -5,6 +5,7 @@ use Rattle.gier_tree.specs.Declaring.{labels_of_statement, labels_of_program}
 use Rattle.gier_tree.specs.Described.{formal_kinds}
 use Rattle.gier_tree.specs.Hoist as hoist
 use Rattle.gier_tree.specs.Lines.{first_program, first_heading, first_name, group_begin}
+use Rattle.gier_tree.specs.Texts.{fixed_count}
 use Rattle.gier_tree.specs.Trees as tree
 use Rattle.gier_meaning.specs.Plain as plain
 use Rattle.gier_meaning.specs.Scopes.{labels}
@@ -34,3 +35,7 @@ pub record LinesAreEqual : Type 0 where
   pub names : (ns : tree.Names) → plain.first_line ns ≡ first_name ns
   pub heading : (type : Option tree.TypeWord) (l : ℕ) (x : tree.Name) (fs : tree.Formals) (m : ℕ) (vs : tree.ValuePart)
       (ss : List tree.Specification) → plain.heading_line type l ≡ first_heading (tree.MkHeading type l x fs m vs ss)
+
+-- the own quantities of a segment, counted for hoisting and for texts
+abbrev pub CountsAreEqual : Type 0
+CountsAreEqual = (s : tree.FixedSegment) → hoist.count_fixed s ≡ fixed_count s

@@ -1,6 +1,6 @@
 // The laws between definitions of one thing. They have no code: each says what its contract says.
 ghost use Rattle.gier_twice.specs.ProgramRooms.{PlacesTellTheNeed, ProgramsAreEqual};
-ghost use Rattle.gier_twice.specs.SameParts.{FormalsAreEqual, LabelsAreEqual, LinesAreEqual, ProgramLabelsAreEqual};
+ghost use Rattle.gier_twice.specs.SameParts.{CountsAreEqual, FormalsAreEqual, LabelsAreEqual, LinesAreEqual, ProgramLabelsAreEqual};
 ghost use Rattle.gier_twice.specs.SameRooms.{BlocksAreEqual, BlocksStayAlike, EvaluationsAreEqual};
 ghost use Rattle.gier_twice.specs.SameRooms.{ProceduresAreEqual, ProceduresStayAlike, TurnsStayAlike};
 
@@ -31,4 +31,9 @@ pub fn law_same_labels()
 /// The lines of first symbols are told alike by hoisting, by texts and by the meaning.
 pub fn law_same_lines()
     ensures { LinesAreEqual }
+{}
+
+/// Hoisting and texts count the own quantities of a segment alike.
+pub fn law_same_counts()
+    ensures { CountsAreEqual }
 {}

@@ -3,4 +3,6 @@
 
 mod laws;
 
-pub use laws::{law_same_formals, law_same_labels, law_same_lines, law_same_rooms};
+pub use laws::{
+    law_same_counts, law_same_formals, law_same_labels, law_same_lines, law_same_rooms,
+};
