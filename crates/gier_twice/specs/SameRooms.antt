@@ -1,5 +1,5 @@
--- Rooms and needs are defined twice: over the tree that is spelled, for texts, and over the tree that is executed, for meanings. The
--- two are equal, for right trees and wrong ones.
+-- Rooms and needs are defined twice: over the tree that is spelled, for texts, and over the tree that is executed, for meanings.
+-- The two are equal, for right trees and wrong ones.
 use Rattle.std.specs.Prelude.{◌≡◌, ℕ, List, Option}
 use Rattle.gier_tree.specs.Trees as tree
 use Rattle.gier_tree.specs.Room as tree_room

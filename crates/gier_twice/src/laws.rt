@@ -4,8 +4,8 @@ ghost use Rattle.gier_twice.specs.SameParts.{CountsAreEqual, FormalsAreEqual, La
 ghost use Rattle.gier_twice.specs.SameRooms.{BlocksAreEqual, BlocksStayAlike, EvaluationsAreEqual};
 ghost use Rattle.gier_twice.specs.SameRooms.{ProceduresAreEqual, ProceduresStayAlike, TurnsStayAlike};
 
-/// The rooms of blocks, procedures and evaluations are those of text 7, where what a meaning asks of identifiers is what scopes tell;
-/// within each scope it is so again. The room of a program is that of text 7, for any data and any permitted steps.
+/// The rooms of blocks, procedures and evaluations are those of text 7, where what a meaning asks of identifiers is what scopes
+/// tell; within each scope it is so again. The room of a program is that of text 7, for any data and any permitted steps.
 pub fn law_same_rooms()
     ensures evaluations { EvaluationsAreEqual }
     ensures blocks { BlocksAreEqual }

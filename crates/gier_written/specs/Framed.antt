@@ -1,13 +1,13 @@
--- Text 4 said of the program as it was written: where it has own quantities, a block around it declares them, and nothing is renamed.
--- It says nothing of text 5, in which places count.
+-- Text 4 said of the program as it was written: where it has own quantities, a block around it declares them, and nothing is
+-- renamed. It says nothing of text 5, in which places count.
 use Rattle.std.specs.Prelude.{◌≡◌, List, [], ◌∷◌, length}
 use Rattle.gier_symbol.specs.declared.symbol.Symbol.{Symbol}
 use Rattle.gier_tree.specs.Declaring.{own_names}
 use Rattle.gier_tree.specs.Hoist.{first_line, end_line, without_own, last_own, hoisted_declarations}
 use Rattle.gier_tree.specs.OwnCount.{owns_of_program}
 use Rattle.gier_tree.specs.TextsOf.{names_of_owns, text4, text_by, text_program}
-use Rattle.gier_tree.specs.Trees.{Declaration, Statement, OneUnconditional, MkUnconditional, OneGroup, NoStatements, MkBlock, Program}
-use Rattle.gier_tree.specs.Trees.{MkProgram}
+use Rattle.gier_tree.specs.Trees.{Declaration, Statement, OneUnconditional, MkUnconditional, OneGroup, NoStatements, MkBlock}
+use Rattle.gier_tree.specs.Trees.{Program, MkProgram}
 use Rattle.gier_tree.specs.Written.{Collected}
 use Rattle.gier_written.specs.Renamed.{AreSmall}
 
