@@ -73,7 +73,7 @@ formals_seen h (x ∷ xs) k = (k.0, formals_seen h xs k.1)
 
 -- ---- their identifiers
 
-named_identifiers : (w : Described) (xs : List Name) → identifiers (map (entry w) xs) ≡ scope_of xs
+pub named_identifiers : (w : Described) (xs : List Name) → identifiers (map (entry w) xs) ≡ scope_of xs
 named_identifiers w [] = refl
 named_identifiers w (x ∷ xs) = ap (λ ys. x.number ∷ ys) (named_identifiers w xs)
 

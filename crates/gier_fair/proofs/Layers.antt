@@ -18,11 +18,11 @@ use Rattle.gier_fair.proofs.Apart.{joined}
 use Rattle.gier_fair.proofs.OwnsOf.{counted_declaration}
 use Rattle.gier_fair.proofs.PlacesTell.{bind_entries}
 
-left_in : (a b : Bool) → a ≡ true → (a || b) ≡ true
+pub left_in : (a b : Bool) → a ≡ true → (a || b) ≡ true
 left_in true b e = refl
 left_in false b e = cc
 
-right_in : (a b : Bool) → b ≡ true → (a || b) ≡ true
+pub right_in : (a b : Bool) → b ≡ true → (a || b) ≡ true
 right_in true b e = refl
 right_in false b e = e
 

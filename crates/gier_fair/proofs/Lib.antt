@@ -14,4 +14,7 @@ pub mod Layers
 pub mod Headings
 pub mod HoistedEntries
 pub mod HoistedScopes
+pub mod Unhoisted
+pub mod OwnDeclarations
+pub mod WholePrograms
 pub mod Examples

@@ -4,4 +4,6 @@
 
 mod laws;
 
-pub use laws::{law_fair_examples, law_fair_expressions, law_fair_scopes, law_fair_types};
+pub use laws::{
+    law_fair, law_fair_examples, law_fair_expressions, law_fair_scopes, law_fair_types,
+};
