@@ -9,3 +9,4 @@ pub mod Runs
 pub mod Early
 pub mod DefinedObject
 pub mod Answering
+pub mod Journals

@@ -8,6 +8,10 @@ pub mod Checked
 pub mod RunTails
 pub mod Reply
 pub mod ReplyExamples
+pub mod ToldRun
+pub mod CallReply
+pub mod Journal
+pub mod CallExamples
 pub mod Mortem
 pub mod TailsOfRun
 pub mod RunAnswer

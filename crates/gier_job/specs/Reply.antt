@@ -1,6 +1,6 @@
 -- What a command answers to a tape: the status, the printed bytes, and what is taken from the tape. Devices that fail aren't
 -- spoken of here, nor is want of memory.
-use Rattle.std.specs.Prelude.{◌≡◌, ◌++◌, ◌-◌, ◌/◌, ℕ, suc, Bool, true, false, nat_lt, List, [], ◌∷◌, map, take, length, Option}
+use Rattle.std.specs.Prelude.{◌++◌, ◌-◌, ◌/◌, ℕ, suc, Bool, true, false, List, [], ◌∷◌, map, take, length, Option}
 use Rattle.std.specs.Prelude.{None, Some}
 use Rattle.gier_symbol.specs.Tape.{program_of, data_of, most_data}
 use Rattle.gier_symbol.specs.Reading.{symbols_of}
@@ -15,12 +15,10 @@ use Rattle.gier_kinds.specs.ErrorTexts.{error_lines}
 use Rattle.gier_meaning.specs.Observation.{Observation}
 use Rattle.gier_meaning.specs.Meaning.{meaning}
 use Rattle.gier_order.specs.Flat.Run.{flat}
-use Rattle.gier_job.specs.Command.{IsCommand, IsFirstWrong}
-use Rattle.gier_job.specs.Tails.{wrong_word_tail}
 use Rattle.gier_job.specs.RunTails.{status_after, ending_tail, counts, mortem_for}
 use Rattle.gier_job.specs.declared.command.Command.{Command}
 use Rattle.gier_job.specs.declared.status.Status.{Status}
-use Rattle.gier_job.specs.declared.status.Status.TheVariants.{Done, Errors as ErrorsFound, Words}
+use Rattle.gier_job.specs.declared.status.Status.TheVariants.{Done, Errors as ErrorsFound}
 
 pub record Reply : Type 0 where
   pub status : Status
@@ -77,9 +75,3 @@ abbrev pub reply_to : Command → (tape : List ℕ) → Reply
 reply_to c tape =
     let text : List ℕ = text_for c.sample tape in
     by_errors c tape (errors text) (program_spelled (assembly (symbols_of text).symbols).symbols)
-
--- the reply to any words: the first wrong one is told, or the command that they are is obeyed
-pub record IsReply (words : List (List ℕ)) (tape : List ℕ) (reply : Reply) : Type 0 where
-  pub refused : (number : ℕ) → IsFirstWrong words number
-      → reply ≡ record { status = Words; printed = wrong_word_tail number; taken = [] }
-  pub accepted : (command : Command) → IsCommand words command → reply ≡ reply_to command tape

@@ -15,7 +15,7 @@ mod working;
 pub use answer::gier;
 pub use command::{Command, read_words};
 pub use gier_runner::Settings;
-pub use laws::law_reply;
+pub use laws::{law_calls, law_journals, law_reply, law_told};
 pub use status::{Status, status_text};
 pub use working::work;
 
