@@ -1,5 +1,5 @@
-//! Texts spelled in words, and whether a pass writes such a text for another: for the tests of passes. It isn't needed to compile or
-//! to run a program.
+//! Texts spelled in words, and whether a pass writes such a text for another: for the tests of passes. It isn't needed to compile or to
+//! run a program.
 #![tactic(auto)]
 
 mod names;

@@ -1,6 +1,6 @@
-// Texts spelled in words: `1 begin identifier=8 2 used=label place=1.3 JUMP=0.4`. A number is the line of what follows; a symbol
-// has its name and, where its value isn't 0, a `=` with the value: a name of a construct, a kind or a symbol, or numbers with dots
-// between them, of which the last has 24 bits and the one before it 8. What passes do with a text isn't told here.
+// Texts spelled in words: `1 begin identifier=8 2 used=label place=1.3 JUMP=0.4`. A number is the line of what follows; a symbol has its
+// name and, where its value isn't 0, a `=` with the value: a name of a construct, a kind or a symbol, or numbers with dots between
+// them, of which the last has 24 bits and the one before it 8. What passes do with a text isn't told here.
 ghost use Rattle.std.specs.Prelude.{◌≡◌, IfSome, false, true};
 ghost use Rattle.gier_symbol.specs.Symbols.{IsSymbol};
 
