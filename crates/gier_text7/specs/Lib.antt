@@ -1,0 +1,10 @@
+pub mod Answers
+pub mod PassState
+pub mod Tags
+pub mod Ahead
+pub mod Operands
+pub mod Marks
+pub mod PurePass
+pub mod Outbox
+pub mod Codes
+pub mod Laws
