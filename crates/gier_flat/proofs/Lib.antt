@@ -23,6 +23,7 @@ mod StartAndStop
 mod RunReport
 mod Programs
 mod Blocks
+mod BlockRuns
 mod Pieces
 mod DeclaredQuantities
 mod Labels

@@ -1,4 +1,5 @@
 pub mod Alike
+pub mod FairScope
 pub mod Fair
 pub mod Premises
 pub mod Law
