@@ -80,7 +80,7 @@ pub entities_count : (n : ℕ) (xs : List ℕ) → length (entities_from n xs) �
 entities_count n [] = refl
 entities_count n (x ∷ xs) = ap suc (entities_count (suc n) xs)
 
-or_true : (t : Bool) → (t || true) ≡ true
+pub or_true : (t : Bool) → (t || true) ≡ true
 or_true true = refl
 or_true false = refl
 

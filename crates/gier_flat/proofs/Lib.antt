@@ -24,6 +24,8 @@ mod RunReport
 mod Programs
 mod Blocks
 mod BlockRuns
+mod DeclaredEntities
+mod AllPasses
 mod Pieces
 mod DeclaredQuantities
 mod Labels
