@@ -26,6 +26,7 @@ mod Blocks
 mod BlockRuns
 mod DeclaredEntities
 mod AllPasses
+mod BlockEntries
 mod Pieces
 mod DeclaredQuantities
 mod Labels
