@@ -8,9 +8,16 @@ use Rattle.gier_order.specs.declared.operation.Operation.{Operation}
 use Rattle.gier_order.specs.declared.operation.Operation.TheVariants as op
 use Rattle.gier_tree.specs.Orders.{State, Following, Code, number_of, behind_word}
 use Rattle.gier_tree.specs.Object.{piece_of, words_of}
+use Rattle.gier_tree.specs.Coded.{code_expr}
+use Rattle.gier_tree.specs.Places.{Places}
+use Rattle.gier_tree.specs.Text7.{code_group, code_statement}
+use Rattle.gier_tree.specs.Texts.{Where}
+use Rattle.gier_tree.specs.Trees.{Expr, Group, MkCompound, Statement, NoStatements}
 use Rattle.gier_tree.specs.Words.{HasStop, stop_tag}
 use Rattle.gier_complete.proofs.Passing.{IsNoStop, Claim, IsCarried, CodeCarries}
+use Rattle.gier_complete.proofs.ExpressionsCarry.{expr_carries}
 use Rattle.gier_complete.proofs.OrderPieces.{piece_is, is_another}
+use Rattle.gier_complete.proofs.StatementsCarry.{group_carries}
 use Rattle.gier_flat.proofs.Positions.{At, behind}
 use Rattle.gier_flat.proofs.Continuations.{Passes}
 
@@ -39,3 +46,13 @@ module _ (text : List Symbol) (size : ℕ) (ends : HasStop text) where
 
   pub passes : (c : Code) → ((P : Claim) → IsCarried P → CodeCarries P c) → (level w : ℕ) → Passes text size ends (c level w)
   passes c carry level w st go at = carry (Comes st go) (carried st go) level w 0 go (λ s le at1. (s, at1, le)) st (omega arith) at
+
+  pub expr_passes : (p : Places) (e : Expr) (level w : ℕ) → Passes text size ends (code_expr p e level w)
+  expr_passes p e = passes (code_expr p e) (λ P h. expr_carries P h p e)
+
+  pub group_passes : (p : Places) (at : Where) (g : Group) (level w : ℕ) → Passes text size ends (code_group p at g level w)
+  group_passes p at g = passes (code_group p at g) (λ P h. group_carries P h p at g)
+
+  -- it is a group of its own
+  pub statement_passes : (p : Places) (at : Where) (s : Statement) (level w : ℕ) → Passes text size ends (code_statement p at s level w)
+  statement_passes p at s = group_passes p at (MkCompound 0 s NoStatements 0)

@@ -27,6 +27,7 @@ mod BlockRuns
 mod DeclaredEntities
 mod AllPasses
 mod BlockEntries
+mod LabelPlaces
 mod Pieces
 mod DeclaredQuantities
 mod Labels
