@@ -92,7 +92,7 @@ entries_named (v ∷ vs) ls = ap (λ r. v.name.number ∷ r) (entries_named vs l
 
 -- ---- what the meaning declares and makes
 
-quantities_both : (xs ys : List ℕ) → quantities (xs ++ ys) ≡ quantities xs ++ quantities ys
+pub quantities_both : (xs ys : List ℕ) → quantities (xs ++ ys) ≡ quantities xs ++ quantities ys
 quantities_both [] ys = refl
 quantities_both (x ∷ xs) ys = ap (λ r. Quantity x ∷ r) (quantities_both xs ys)
 

@@ -28,6 +28,7 @@ mod DeclaredEntities
 mod AllPasses
 mod BlockEntries
 mod LabelPlaces
+mod BlockActivation
 mod Pieces
 mod DeclaredQuantities
 mod Labels
