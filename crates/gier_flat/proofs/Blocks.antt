@@ -26,15 +26,15 @@ use Rattle.gier_flat.proofs.OrderRows.{Machine}
 use Rattle.gier_flat.proofs.StackRelation.{Known, sort, RunInvariant, RefinesOutcome, Behind}
 use Rattle.gier_flat.proofs.Composition.{MovesTo}
 use Rattle.gier_flat.proofs.Assignments.{NothingShown}
-use Rattle.gier_flat.specs.Fair.{FairStatements}
 use Rattle.gier_flat.proofs.Setting.{Setting}
-use Rattle.gier_flat.proofs.Scopes.{IsScope, Outside, scope_runs}
+use Rattle.gier_flat.proofs.Scopes.{IsScope, Outside}
+use Rattle.gier_flat.proofs.BlockRuns.{ScopeRuns}
 use Rattle.gier_flat.proofs.NewActivation.{StackBelow, under_here, NewActivation, Inner, inner_within, opens, opened_end, opened_old}
 use Rattle.gier_flat.proofs.BlockEntry.{entered, entered_state, entered_moves, enters, leaves, body_at, base_low}
 
 module _ (setting : Setting) where
   module _ (K : Known) (w0 need0 : ℕ) (env : Env) (p : Places) (m : Machine) (s : State Closure) (lives : Live) (h : RunInvariant setting.text setting.size K w0 need0 env p m s lives)
-      (level words line : ℕ) (st : code.State) (beyond : Following) (q : Places) (place : Where) (ss : tree.Statements) (f : FairStatements q ss) where
+      (level words line : ℕ) (st : code.State) (beyond : Following) (q : Places) (place : Where) (ss : tree.Statements) where
     abbrev pub need : ℕ
     need = need_statements (scopes_of q) ss
 
@@ -90,24 +90,24 @@ module _ (setting : Setting) where
           out : (d b a : ℕ) → Outside setting env1 q live1 own (statements ss) (need_statements (scopes_of q) ss) (code_statements q place ss level) (λ label. have label env1 (statements ss)) K1 d b a → K.label d b a
           out d b a o = ⊎_elim (λ x. x) (λ x. absurd (subst (λ t. elim t as (λ _. Type 0) [ true ↦ Unit {0} | false ↦ ⊥ ]) (sym (its d a x.1).0 ∙ o.1) tt)) o.0
 
-          entered_runs : RefinesOutcome setting.text setting.size Finished K K.label m s (Behind setting.text setting.size beyond) m.regs.base m.regs.top (NothingShown setting K) (caught own (λ label s2. (within setting.size k).rest label own (statements ss) env1 live1 s2) (run_all setting.size (within setting.size k) (statements ss) env1 live1 (s1 left)))
-          entered_runs =
+          entered_runs : ScopeRuns setting k q place ss level → RefinesOutcome setting.text setting.size Finished K K.label m s (Behind setting.text setting.size beyond) m.regs.base m.regs.top (NothingShown setting K) (caught own (λ label s2. (within setting.size k).rest label own (statements ss) env1 live1 s2) (run_all setting.size (within setting.size k) (statements ss) env1 live1 (s1 left)))
+          entered_runs run =
               let same_left : left ≡ (s1 left).left = n.left in
               leaves setting K K1 (inner_within setting.text setting.size K m (m1 left) s (s1 left) env1 q m.regs.top NewCell NewLabel m.regs.base level m.regs.base words (need_statements (scopes_of q) ss) room live1 under n) m (m1 left) s (s1 left) m.regs.top room (need_statements (scopes_of q) ss) line beyond moves_in (omega arith) (inr (omega arith, omega arith)) (n.words m.regs.top ∙ opened_old m.regs.words m.regs.top m.regs.base level m.regs.base room)
               (base_low setting K w0 need0 env p m s lives h level words (need_statements (scopes_of q) ss) line st go below header low stands need_is here) (omega (arith, header)) fit
               (Outside setting env1 q live1 own (statements ss) (need_statements (scopes_of q) ss) (code_statements q place ss level) (λ label. have label env1 (statements ss)) K1)
               (caught own (λ label s2. (within setting.size k).rest label own (statements ss) env1 live1 s2) (run_all setting.size (within setting.size k) (statements ss) env1 live1 (s1 left))) out
-              (scope_runs setting env1 q live1 own place ss f level k K1 words (m1 left) (s1 left) (behind_word st line) (λ s2. code.order op.Leave 0 0 line s2 (λ s3. code.needs (need_statements (scopes_of q) ss) s3 beyond)) (omega (arith, le, same_left))
+              (run env1 live1 own K1 words (m1 left) (s1 left) (behind_word st line) (λ s2. code.order op.Leave 0 0 line s2 (λ s3. code.needs (need_statements (scopes_of q) ss) s3 beyond)) (omega (arith, le, same_left))
               (opens setting.text setting.size K m (m1 left) s (s1 left) env1 q m.regs.top NewCell NewLabel m.regs.base level m.regs.base words (need_statements (scopes_of q) ss) room live1 under n) scope
               (body_at setting K w0 need0 env p m s lives h level words (need_statements (scopes_of q) ss) line st go below header low stands need_is here) (omega (arith, here)))
 
-        pub block_runs : (steps : ℕ) → s.left ≤ steps → RefinesOutcome setting.text setting.size Finished K K.label m s (Behind setting.text setting.size beyond) m.regs.base m.regs.top (NothingShown setting K) (enter setting.size InBlock room line lives s (λ live s2. (within setting.size steps).block ds (statements ss) env live s2))
-        block_runs steps le =
+        pub block_runs : (steps : ℕ) → ((k : ℕ) → k < steps → ScopeRuns setting k q place ss level) → s.left ≤ steps → RefinesOutcome setting.text setting.size Finished K K.label m s (Behind setting.text setting.size beyond) m.regs.base m.regs.top (NothingShown setting K) (enter setting.size InBlock room line lives s (λ live s2. (within setting.size steps).block ds (statements ss) env live s2))
+        block_runs steps runs le =
             enters setting K w0 need0 env p m s lives h level words (need_statements (scopes_of q) ss) line st go below header low stands need_is here K.label (Behind setting.text setting.size beyond) (λ live s2. (within setting.size steps).block ds (statements ss) env live s2)
-            (λ left e fit. by steps le left e fit)
+            (λ left e fit. by steps runs le left e fit)
           where
-            by : (steps : ℕ) → s.left ≤ steps → (left : ℕ) → s.left ≡ suc left → m.regs.top + room ≤ setting.size → RefinesOutcome setting.text setting.size Finished K K.label m s (Behind setting.text setting.size beyond) m.regs.base m.regs.top (NothingShown setting K) ((within setting.size steps).block ds (statements ss) env live1 (entered_state setting K w0 need0 env p m s lives h level words (need_statements (scopes_of q) ss) line st go below header low stands need_is here left))
-            by zero le left e fit = absurd (omega (arith, le, e))
-            by (suc k) le left e fit =
+            by : (steps : ℕ) → ((k : ℕ) → k < steps → ScopeRuns setting k q place ss level) → s.left ≤ steps → (left : ℕ) → s.left ≡ suc left → m.regs.top + room ≤ setting.size → RefinesOutcome setting.text setting.size Finished K K.label m s (Behind setting.text setting.size beyond) m.regs.base m.regs.top (NothingShown setting K) ((within setting.size steps).block ds (statements ss) env live1 (entered_state setting K w0 need0 env p m s lives h level words (need_statements (scopes_of q) ss) line st go below header low stands need_is here left))
+            by zero runs le left e fit = absurd (omega (arith, le, e))
+            by (suc k) runs le left e fit =
                 subst (λ r. RefinesOutcome setting.text setting.size Finished K K.label m s (Behind setting.text setting.size beyond) m.regs.base m.regs.top (NothingShown setting K) r) (sym (declares k left))
-                (entered_runs k left (omega (arith, le, e)) e fit)
+                (entered_runs k left (omega (arith, le, e)) e fit (runs k (omega arith)))

@@ -22,13 +22,14 @@ mod BlockEntry
 mod StartAndStop
 mod RunReport
 mod Programs
-mod Blocks
 mod BlockRuns
+mod Blocks
 mod DeclaredEntities
 mod AllPasses
 mod BlockEntries
 mod LabelPlaces
 mod BlockActivation
+mod BlockRooms
 mod Pieces
 mod DeclaredQuantities
 mod Labels
