@@ -8,10 +8,10 @@ use Rattle.gier_tree.specs.declared.kind.Kind.{Kind}
 use Rattle.gier_tree.specs.declared.kind.Kind.TheVariants as kind
 use Rattle.gier_tree.specs.Coded.{Part, by_name, then_order, address_of, name_evaluation, value_evaluation}
 use Rattle.gier_tree.specs.Coded.{string_actual, value_wanted, values_wanted}
-use Rattle.gier_tree.specs.Orders.{State, Following, Code, order}
+use Rattle.gier_tree.specs.Orders.{State, Following, Code, order, first_label}
 use Rattle.gier_tree.specs.Places.{Placed}
 use Rattle.gier_complete.proofs.EachKind.{with_kind, each_kind}
-use Rattle.gier_complete.proofs.Passing.{Claim, IsCarried, Carries, CodeCarries}
+use Rattle.gier_complete.proofs.Passing.{Ahead, Claim, IsCarried, Carries, CodeCarries, one, more}
 use Rattle.gier_complete.proofs.PiecesCarry.{then_carries, address_carries, by_name_carries}
 use Rattle.gier_complete.proofs.PiecesCarry.{string_carries}
 
@@ -37,7 +37,7 @@ module _ (P : Claim) (h : IsCarried P) where
   formal_carries l a need line v = by_name_carries P h 3 need line (λ level w s k. order op.Pass l a line s (λ s1. order op.Back 0 0 line s1 k))
       (λ level w m q k st. h.an_order op.Pass tt _ _ m _ _ (h.an_order op.Back tt _ _ m _ _ (k _))) v
 
-  name_by_kind : (at : Placed) (c : Code) → CodeCarries P c → (need line v n : ℕ) (go : Following) → ((s : State) → P n s (go s)) → (st : State) → (kd : Kind) → P n st (name_evaluation (with_kind at kd) c need line v st go)
+  name_by_kind : (at : Placed) (c : Code) → CodeCarries P c → (need line v : ℕ) (n : Ahead) (go : Following) → ((s : State) → P n s (go s)) → (st : State) → (kd : Kind) → P n st (name_evaluation (with_kind at kd) c need line v st go)
   name_by_kind at c pc need line v n go k st =
       let other : P n st (by_name 0 need line (then_order op.Back line c) v st go) = by_name_carries P h 0 need line (then_order op.Back line c) (then_carries P h op.Back tt line c pc) v n go k st in
       let variable : (kd : Kind) → P n st (by_name 1 need line (λ level w s k. address_of (with_kind at kd) line s (λ s1. order op.Give 0 0 line s1 k)) v st go) = λ kd. variable_carries (with_kind at kd) need line v n go k st in
@@ -59,8 +59,9 @@ module _ (P : Claim) (h : IsCarried P) where
 
   value_wanted_carries : (at : Placed) (i level v line : ℕ) → Carries P (value_wanted at i level v line)
   value_wanted_carries at i level v line n go k st =
-      h.an_order op.Short tt _ _ n _ _ (h.an_order op.ByVal tt _ _ n _ _ (h.a_new n _ _ (h.a_use _ _ n _ _ (h.an_order op.Value tt _ _ n _ _
-      (h.an_order op.Keep tt _ _ n _ _ (h.a_place _ _ n _ _ (k _)))))))
+      let n1 = more n (one (first_label + st.labels)) in
+      h.an_order op.Short tt _ _ n _ _ (h.an_order op.ByVal tt _ _ n _ _ (h.a_new n _ _ (h.a_use _ _ n1 _ _ (h.an_order op.Value tt _ _ n1 _ _
+      (h.an_order op.Keep tt _ _ n1 _ _ (h.a_place _ _ n _ _ (k _)))))))
 
   pub values_wanted_carries : (at : Placed) (i level v line : ℕ) (kinds : List Fitting) → Carries P (values_wanted at i level v line kinds)
   values_wanted_carries at i level v line [] n go k st = k st

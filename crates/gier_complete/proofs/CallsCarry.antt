@@ -11,12 +11,12 @@ use Rattle.gier_tree.specs.Coded.{formal_call, declared_call, standard_call, cal
 use Rattle.gier_tree.specs.Orders.{State, Following, order, with_label, data_words}
 use Rattle.gier_tree.specs.Places.{Placed}
 use Rattle.gier_complete.proofs.EachKind.{with_kind, each_kind}
-use Rattle.gier_complete.proofs.Passing.{Claim, IsCarried, Carries, CodeCarries}
+use Rattle.gier_complete.proofs.Passing.{Ahead, Claim, IsCarried, Carries, CodeCarries}
 use Rattle.gier_complete.proofs.PiecesCarry.{then_carries, value_carries, array_carries, by_name_carries, words_carry, jumped_carries}
 use Rattle.gier_complete.proofs.ActualsCarry.{PartCarries, PartsCarry, value_actual, string_passes, values_wanted_carries}
 
 module _ (P : Claim) (h : IsCarried P) where
-  declared_by_count : (at : Placed) (line n : ℕ) (go : Following) → ((s : State) → P n s (go s)) → (st : State) → (count : ℕ) → P n st (declared_actual (record { what = record { kind = at.what.kind; count = count; formals = at.what.formals }; level = at.level; address = at.address }) line st go)
+  declared_by_count : (at : Placed) (line : ℕ) (n : Ahead) (go : Following) → ((s : State) → P n s (go s)) → (st : State) → (count : ℕ) → P n st (declared_actual (record { what = record { kind = at.what.kind; count = count; formals = at.what.formals }; level = at.level; address = at.address }) line st go)
   declared_by_count at line n go k st zero = h.a_use _ _ n _ _ (k _)
   declared_by_count at line n go k st (suc c) =
       let kinds = packed_kinds (map formal_fitting at.what.formals) in
@@ -27,7 +27,7 @@ module _ (P : Claim) (h : IsCarried P) where
   declared_carries : (at : Placed) (line : ℕ) → Carries P (declared_actual at line)
   declared_carries at line n go k st = declared_by_count at line n go k st at.what.count
 
-  entity_by_kind : (at : Placed) (line v n : ℕ) (go : Following) → ((s : State) → P n s (go s)) → (st : State) → (kd : Kind) → P n st (entity_actual (with_kind at kd) line v st go)
+  entity_by_kind : (at : Placed) (line v : ℕ) (n : Ahead) (go : Following) → ((s : State) → P n s (go s)) → (st : State) → (kd : Kind) → P n st (entity_actual (with_kind at kd) line v st go)
   entity_by_kind at line v n go k st =
       let based : (s : State) → P n s (order op.Keep 0 v line s (λ s1. order op.Base at.level 0 line s1 (λ s2. order op.Keep 0 (v + 1) line s2 go))) = λ s. h.an_order op.Keep tt _ _ n _ _ (h.an_order op.Base tt _ _ n _ _ (h.an_order op.Keep tt _ _ n _ _ (k _))) in
       let formal : P n st (order op.Take at.level at.address line st (λ s. order op.Keep 0 v line s (λ s1. order op.Take at.level (suc at.address) line s1 (λ s2. order op.Keep 0 (v + 1) line s2 go)))) = h.an_order op.Take tt _ _ n _ _ (h.an_order op.Keep tt _ _ n _ _ (h.an_order op.Take tt _ _ n _ _ (h.an_order op.Keep tt _ _ n _ _ (k _)))) in
@@ -38,11 +38,11 @@ module _ (P : Claim) (h : IsCarried P) where
   entity_carries : (at : Placed) (line v : ℕ) → Carries P (entity_actual at line v)
   entity_carries at line v n go k st = entity_by_kind at line v n go k st at.what.kind
 
-  named_carries : (n : ℕ) (st : State) (name : Option Placed) (f : Placed → List Symbol) (otherwise : List Symbol) → ((at : Placed) → P n st (f at)) → P n st otherwise → P n st (named_actual name f otherwise)
+  named_carries : (n : Ahead) (st : State) (name : Option Placed) (f : Placed → List Symbol) (otherwise : List Symbol) → ((at : Placed) → P n st (f at)) → P n st otherwise → P n st (named_actual name f otherwise)
   named_carries n st None f otherwise pf po = po
   named_carries n st (Some at) f otherwise pf po = pf at
 
-  actual_carries : (level v : ℕ) (a : Part) → PartCarries P h a → (n : ℕ) (go : Following) → ((s : State) → P n s (go s)) → (st : State) → (kd : Kind) → P n st (actual_code kd level v a st go)
+  actual_carries : (level v : ℕ) (a : Part) → PartCarries P h a → (n : Ahead) (go : Following) → ((s : State) → P n s (go s)) → (st : State) → (kd : Kind) → P n st (actual_code kd level v a st go)
   actual_carries level v a pa n go k st =
       let value : P n st (a.value level v st (λ s. order op.Keep 0 v a.line s go)) = pa.value level v n _ (λ s. h.an_order op.Keep tt _ _ n _ _ (k _)) st in
       let named : P n st (value_evaluation a.element a.name a v st go) = value_actual P h a.element a.name a pa.element pa v n go k st in
@@ -70,7 +70,7 @@ module _ (P : Claim) (h : IsCarried P) where
   declared_call_carries at line parts all level w n go k st =
       actuals_carry at.what.formals level w parts all n _ (λ s. h.an_order op.Short tt (0 * 2 ^ 24 + w) line n _ _ (h.a_use _ line n _ _ (k _))) st
 
-  standard_by_kind : (line : ℕ) (a : Part) (more : List Part) → PartCarries P h a → (level w n : ℕ) (go : Following) → ((s : State) → P n s (go s)) → (st : State) → (kd : Kind) → P n st (standard_call kd line (a ∷ more) level w st go)
+  standard_by_kind : (line : ℕ) (a : Part) (more : List Part) → PartCarries P h a → (level w : ℕ) (n : Ahead) (go : Following) → ((s : State) → P n s (go s)) → (st : State) → (kd : Kind) → P n st (standard_call kd line (a ∷ more) level w st go)
   standard_by_kind line a more pa level w n go k st =
       let valued : (kd : Kind) → P n st (a.value level w st (λ s. library kd line s go)) = λ kd. pa.value level w n _ (λ s. h.an_order op.Lib tt _ _ n _ _ (k _)) st in
       let text : P n st (string_actual a.string a.name a.line st (λ s. library kind.OutText line s go)) = string_passes P h a.string a.name a.line n (λ s. library kind.OutText line s go) (λ s. h.an_order op.Lib tt _ _ n _ _ (k _)) st in
@@ -80,7 +80,7 @@ module _ (P : Claim) (h : IsCarried P) where
   standard_carries kd line [] all level w n go k st = h.an_order op.Lib tt _ _ n _ _ (k _)
   standard_carries kd line (a ∷ more) all level w n go k st = standard_by_kind line a more all.0 level w n go k st kd
 
-  call_by_kind : (at : Placed) (line : ℕ) (parts : List Part) → PartsCarry P h parts → (level w n : ℕ) (go : Following) → ((s : State) → P n s (go s)) → (st : State) → (kd : Kind) → P n st (call_code (with_kind at kd) line parts level w st go)
+  call_by_kind : (at : Placed) (line : ℕ) (parts : List Part) → PartsCarry P h parts → (level w : ℕ) (n : Ahead) (go : Following) → ((s : State) → P n s (go s)) → (st : State) → (kd : Kind) → P n st (call_code (with_kind at kd) line parts level w st go)
   call_by_kind at line parts all level w n go k st =
       let declared : (kd : Kind) → P n st (declared_call (with_kind at kd) line parts level w st go) = λ kd. declared_call_carries (with_kind at kd) line parts all level w n go k st in
       let formal : (kd : Kind) → P n st (formal_call (with_kind at kd) line parts level w st go) = λ kd. formal_call_carries (with_kind at kd) line parts all level w n go k st in
@@ -90,7 +90,7 @@ module _ (P : Claim) (h : IsCarried P) where
   pub call_carries : (at : Placed) (line : ℕ) (parts : List Part) → PartsCarry P h parts → CodeCarries P (call_code at line parts)
   call_carries at line parts all level w n go k st = call_by_kind at line parts all level w n go k st at.what.kind
 
-  alone_by_kind : (at : Placed) (line level w n : ℕ) (go : Following) → ((s : State) → P n s (go s)) → (st : State) → (kd : Kind) → P n st (alone_code (with_kind at kd) line level w st go)
+  alone_by_kind : (at : Placed) (line level w : ℕ) (n : Ahead) (go : Following) → ((s : State) → P n s (go s)) → (st : State) → (kd : Kind) → P n st (alone_code (with_kind at kd) line level w st go)
   alone_by_kind at line level w n go k st =
       let taken : (kd : Kind) → P n st (value_of (with_kind at kd) line st go) = λ kd. value_carries P h (with_kind at kd) line n go k st in
       let called : (kd : Kind) → P n st (call_code (with_kind at kd) line [] level w st go) = λ kd. call_carries (with_kind at kd) line [] tt level w n go k st in

@@ -18,10 +18,11 @@ use Rattle.gier_tree.specs.Texts.{Where}
 use Rattle.gier_tree.specs.Trees.{LabelPlace, Group, MkProgram}
 use Rattle.gier_tree.specs.Words.{HasStop}
 use Rattle.gier_complete.specs.Whole.{stops_at, stops_in, closes_at, AreClosed, counted_at, IsCounted, program_need, AreWhole}
-use Rattle.gier_complete.proofs.ConstructsCarry.{also_carries, labels_carry}
+use Rattle.gier_complete.proofs.ConstructsCarry.{also_so, labels_so}
 use Rattle.gier_complete.proofs.OrderPieces.{piece_is, is_another}
-use Rattle.gier_complete.proofs.Passing.{IsNoStop, Claim, IsCarried}
-use Rattle.gier_complete.proofs.StatementsCarry.{group_carries}
+use Rattle.gier_complete.proofs.Passing.{IsNoStop, Ahead, Labels, Claim, IsCarried, more, none, joined}
+use Rattle.gier_complete.proofs.PlacedLabels.{placed_labels, placed_group}
+use Rattle.gier_complete.proofs.StatementsCarry.{group_so}
 
 -- the words before may be counted in another way
 counted_so : (a b : ℕ) (rest : List Symbol) → a ≡ b → IsCounted a rest → IsCounted b rest
@@ -40,6 +41,7 @@ stop_carried = record {
   a_place = λ value line n st rest h. inr h;
   a_need = λ value line n st rest h. inr h;
   a_new = λ n st rest h. h;
+  same = λ n m rooms places st rest h. h;
 }
 
 abbrev once_claim : Claim
@@ -58,14 +60,15 @@ once_carried = record {
   a_place = λ value line n st rest h. h;
   a_need = λ value line n st rest h. h;
   a_new = λ n st rest h. h;
+  same = λ n m rooms places st rest h. h;
 }
 
 abbrev closed_claim : Claim
-closed_claim n st rest = AreClosed n rest
+closed_claim n st rest = AreClosed n.rooms rest
 
 closed_carried : IsCarried closed_claim
 closed_carried = record {
-  an_order = λ o other value line n st rest h. subst (λ p. closes_at p n (λ k. AreClosed k rest)) (sym (piece_is o value line)) h;
+  an_order = λ o other value line n st rest h. subst (λ p. closes_at p n.rooms (λ k. AreClosed k rest)) (sym (piece_is o value line)) h;
   a_use = λ value line n st rest h. h;
   a_word_use = λ value line n st rest h. h;
   a_word = λ value line n st rest h. h;
@@ -73,14 +76,15 @@ closed_carried = record {
   a_place = λ value line n st rest h. h;
   a_need = λ value line n st rest h. h;
   a_new = λ n st rest h. h;
+  same = λ n m rooms places st rest h. subst (λ r. AreClosed r rest) rooms h;
 }
 
 abbrev need_claim : (need : ℕ) → Claim
-need_claim need n st rest = need_behind rest n ≡ need
+need_claim need n st rest = need_behind rest n.rooms ≡ need
 
 need_carried : (need : ℕ) → IsCarried (need_claim need)
 need_carried need = record {
-  an_order = λ o other value line n st rest h. ap (λ p. need_at p n (need_behind rest)) (piece_is o value line) ∙ h;
+  an_order = λ o other value line n st rest h. ap (λ p. need_at p n.rooms (need_behind rest)) (piece_is o value line) ∙ h;
   a_use = λ value line n st rest h. h;
   a_word_use = λ value line n st rest h. h;
   a_word = λ value line n st rest h. h;
@@ -88,6 +92,7 @@ need_carried need = record {
   a_place = λ value line n st rest h. h;
   a_need = λ value line n st rest h. h;
   a_new = λ n st rest h. h;
+  same = λ n m rooms places st rest h. subst (λ r. need_behind rest r ≡ need) rooms h;
 }
 
 abbrev count_claim : Claim
@@ -109,23 +114,34 @@ count_carried = record {
   a_place = λ value line n st rest h. no_more st.words rest h;
   a_need = λ value line n st rest h. no_more st.words rest h;
   a_new = λ n st rest h. h;
+  same = λ n m rooms places st rest h. h;
 }
 
 -- what stands behind the program's statements
-abbrev ending : List LabelPlace → Group → (line : ℕ) → Following
+abbrev pub ending : List LabelPlace → Group → (line : ℕ) → Following
 ending ls g l s = order OStop 0 0 (group_begin g) s (λ s2. needs (need_group (scopes_of (program_places (MkProgram ls g l))) g) s2 object_words)
 
-program_carries : (P : Claim) → IsCarried P → (ls : List LabelPlace) (g : Group) (l n : ℕ) → ((s : State) → P n s (ending ls g l s)) → P n (behind_word (record { labels = 0; line = group_begin g; words = 0 }) (group_begin g)) (drop 1 (code_program (MkProgram ls g l)))
+-- the labels, switches and procedures that a program declares
+abbrev pub placed_program : List LabelPlace → Group → (line : ℕ) → Labels
+placed_program ls g l =
+    let t = MkProgram ls g l in
+    joined (placed_labels (program_places t) ls)
+    (placed_group (program_places t) (record { level = 1; numbers = entries_numbers (program_entries t); owns = 0 }) g)
+
+abbrev ahead : (rooms : ℕ) → Ahead
+ahead rooms = record { rooms = rooms; places = none }
+
+pub program_carries : (P : Claim) → IsCarried P → (ls : List LabelPlace) (g : Group) (l : ℕ) (n : Ahead) → ((s : State) → P n s (ending ls g l s)) → P (more n (placed_program ls g l)) (behind_word (record { labels = 0; line = group_begin g; words = 0 }) (group_begin g)) (drop 1 (code_program (MkProgram ls g l)))
 program_carries P h ls g l n k =
     let p = program_places (MkProgram ls g l) in
     let at : Where = record { level = 1; numbers = entries_numbers (program_entries (MkProgram ls g l)); owns = 0 } in
-    also_carries P h (labels_code p ls) (code_group p at g) (labels_carry P h p ls) (group_carries P h p at g) 1 block_header n (ending ls g l) k _
+    also_so P h (placed_labels p ls) (placed_group p at g) (labels_code p ls) (code_group p at g) (labels_so P h p ls) (group_so P h p at g) 1 block_header n (ending ls g l) k _
 
 pub are_whole : AreWhole
 are_whole (MkProgram ls g l) = record {
-  stop = inr (program_carries stop_claim stop_carried ls g l 1 (λ s. inl (refl, refl)));
-  once = program_carries once_claim once_carried ls g l 1 (λ s. refl);
-  closed = program_carries closed_claim closed_carried ls g l 1 (λ s. refl);
-  need = program_carries (need_claim (program_need (MkProgram ls g l))) (need_carried (program_need (MkProgram ls g l))) ls g l 0 (λ s. refl);
-  counted = one_more 0 (drop 1 (code_program (MkProgram ls g l))) (program_carries count_claim count_carried ls g l 1 (λ s. (refl, omega arith)));
+  stop = inr (program_carries stop_claim stop_carried ls g l (ahead 1) (λ s. inl (refl, refl)));
+  once = program_carries once_claim once_carried ls g l (ahead 1) (λ s. refl);
+  closed = program_carries closed_claim closed_carried ls g l (ahead 1) (λ s. refl);
+  need = program_carries (need_claim (program_need (MkProgram ls g l))) (need_carried (program_need (MkProgram ls g l))) ls g l (ahead 0) (λ s. refl);
+  counted = one_more 0 (drop 1 (code_program (MkProgram ls g l))) (program_carries count_claim count_carried ls g l (ahead 1) (λ s. (refl, omega arith)));
 }

@@ -1,6 +1,7 @@
 pub mod EachKind
 pub mod OrderPieces
 pub mod Passing
+pub mod PlacedLabels
 pub mod PiecesCarry
 pub mod ActualsCarry
 pub mod CallsCarry

@@ -7,12 +7,12 @@ use Rattle.gier_order.specs.declared.operation.Operation.TheVariants as op
 use Rattle.gier_tree.specs.declared.kind.Kind.{Kind}
 use Rattle.gier_tree.specs.Coded.{both, then_order, sign_code, number_code, choice, address_of, value_of, array_of, subscripts_code}
 use Rattle.gier_tree.specs.Coded.{element_code, label_code, switch_code, evaluation, by_name, string_code, string_words}
-use Rattle.gier_tree.specs.Orders.{State, Following, Code, no_code, number_of, order, with_label, data_words, jumped_over}
+use Rattle.gier_tree.specs.Orders.{State, Following, Code, no_code, number_of, order, with_label, data_words, jumped_over, first_label}
 use Rattle.gier_tree.specs.Places.{Placed}
 use Rattle.gier_tree.specs.Room.{call_header}
 use Rattle.gier_tree.specs.Trees.{Adding, Add, Subtract}
 use Rattle.gier_complete.proofs.EachKind.{with_kind, each_kind}
-use Rattle.gier_complete.proofs.Passing.{IsNoStop, Claim, IsCarried, Carries, CodeCarries}
+use Rattle.gier_complete.proofs.Passing.{IsNoStop, Ahead, Claim, IsCarried, Carries, CodeCarries, one, more, roomed, place_first}
 
 module _ (P : Claim) (h : IsCarried P) where
   pub nothing_carries : CodeCarries P no_code
@@ -27,8 +27,12 @@ module _ (P : Claim) (h : IsCarried P) where
 
   pub choice_carries : (line : ℕ) (a b c : Code) → CodeCarries P a → CodeCarries P b → CodeCarries P c → CodeCarries P (choice line a b c)
   choice_carries line a b c pa pb pc level w n go k =
-      pa level w n _ (λ s. h.a_new n _ _ (h.a_use _ _ n _ _ (pb level w n _ (λ s3. h.a_new n _ _ (h.a_use _ _ n _ _ (h.a_place _ _ n _ _
-      (pc level w n _ (λ s7. h.a_place _ _ n _ _ (k _)) _)))) _)))
+      pa level w n _ (λ s.
+      let n1 = more n (one (first_label + s.labels)) in
+      h.a_new n _ _ (h.a_use _ _ n1 _ _ (pb level w n1 _ (λ s3.
+      let y = first_label + s3.labels in
+      h.a_new n1 _ _ (h.a_use _ _ (more n1 (one y)) _ _ (place_first P h (first_label + s.labels) y _ n _ _
+      (pc level w (more n (one y)) _ (λ s7. h.a_place _ _ n _ _ (k _)) _)))) _)))
 
   pub sign_carries : (sign : Adding) (line : ℕ) (a : Code) → CodeCarries P a → CodeCarries P (sign_code sign line a)
   sign_carries Add line a pa = pa
@@ -38,7 +42,7 @@ module _ (P : Claim) (h : IsCarried P) where
   number_carries true value line level w n go k st = h.an_order op.Short tt _ _ n _ _ (k _)
   number_carries false value line level w n go k st = h.an_order op.Long tt _ _ n _ _ (h.a_word _ _ n _ _ (k _))
 
-  address_by_kind : (at : Placed) (line n : ℕ) (go : Following) → ((s : State) → P n s (go s)) → (st : State) → (kind : Kind) → P n st (address_of (with_kind at kind) line st go)
+  address_by_kind : (at : Placed) (line : ℕ) (n : Ahead) (go : Following) → ((s : State) → P n s (go s)) → (st : State) → (kind : Kind) → P n st (address_of (with_kind at kind) line st go)
   address_by_kind at line n go k st =
       let other : P n st (order op.Addr at.level at.address line st go) = h.an_order op.Addr tt _ _ n _ _ (k _) in
       let formal : P n st (order op.Place at.level at.address line st go) = h.an_order op.Place tt _ _ n _ _ (k _) in
@@ -48,7 +52,7 @@ module _ (P : Claim) (h : IsCarried P) where
   pub address_carries : (at : Placed) (line : ℕ) → Carries P (address_of at line)
   address_carries at line n go k st = address_by_kind at line n go k st at.what.kind
 
-  value_by_kind : (at : Placed) (line n : ℕ) (go : Following) → ((s : State) → P n s (go s)) → (st : State) → (kind : Kind) → P n st (value_of (with_kind at kind) line st go)
+  value_by_kind : (at : Placed) (line : ℕ) (n : Ahead) (go : Following) → ((s : State) → P n s (go s)) → (st : State) → (kind : Kind) → P n st (value_of (with_kind at kind) line st go)
   value_by_kind at line n go k st =
       let other : P n st (order op.Take at.level at.address line st go) = h.an_order op.Take tt _ _ n _ _ (k _) in
       let formal : P n st (order op.Value at.level at.address line st go) = h.an_order op.Value tt _ _ n _ _ (k _) in
@@ -57,7 +61,7 @@ module _ (P : Claim) (h : IsCarried P) where
   pub value_carries : (at : Placed) (line : ℕ) → Carries P (value_of at line)
   value_carries at line n go k st = value_by_kind at line n go k st at.what.kind
 
-  array_by_kind : (at : Placed) (line n : ℕ) (go : Following) → ((s : State) → P n s (go s)) → (st : State) → (kind : Kind) → P n st (array_of (with_kind at kind) line st go)
+  array_by_kind : (at : Placed) (line : ℕ) (n : Ahead) (go : Following) → ((s : State) → P n s (go s)) → (st : State) → (kind : Kind) → P n st (array_of (with_kind at kind) line st go)
   array_by_kind at line n go k st =
       let other : P n st (order op.Addr at.level at.address line st go) = h.an_order op.Addr tt _ _ n _ _ (k _) in
       let formal : P n st (order op.Take at.level at.address line st go) = h.an_order op.Take tt _ _ n _ _ (k _) in
@@ -66,7 +70,7 @@ module _ (P : Claim) (h : IsCarried P) where
   pub array_carries : (at : Placed) (line : ℕ) → Carries P (array_of at line)
   array_carries at line n go k st = array_by_kind at line n go k st at.what.kind
 
-  label_of : (at : Placed) (line level w n : ℕ) (go : Following) → ((s : State) → P n s (go s)) → (st : State) → (kind : Kind) → P n st (label_code (with_kind at kind) line level w st go)
+  label_of : (at : Placed) (line level w : ℕ) (n : Ahead) (go : Following) → ((s : State) → P n s (go s)) → (st : State) → (kind : Kind) → P n st (label_code (with_kind at kind) line level w st go)
   label_of at line level w n go k st =
       let other : P n st (order op.NameL at.level at.address line st go) = h.an_order op.NameL tt _ _ n _ _ (k _) in
       let own : P n st (with_label op.Lab at.level at.address line st go) = h.a_use _ _ n _ _ (k _) in
@@ -75,7 +79,7 @@ module _ (P : Claim) (h : IsCarried P) where
   pub label_carries : (at : Placed) (line : ℕ) → CodeCarries P (label_code at line)
   label_carries at line level w n go k st = label_of at line level w n go k st at.what.kind
 
-  switch_of : (at : Placed) (line : ℕ) (c : Code) → CodeCarries P c → (level w n : ℕ) (go : Following) → ((s : State) → P n s (go s)) → (st : State) → (kind : Kind) → P n st (switch_code (with_kind at kind) line c level w st go)
+  switch_of : (at : Placed) (line : ℕ) (c : Code) → CodeCarries P c → (level w : ℕ) (n : Ahead) (go : Following) → ((s : State) → P n s (go s)) → (st : State) → (kind : Kind) → P n st (switch_code (with_kind at kind) line c level w st go)
   switch_of at line c pc level w n go k st =
       let other : P n st (c level w st (λ s. order op.SwForm at.level at.address line s go)) = pc level w n _ (λ s. h.an_order op.SwForm tt _ _ n _ _ (k _)) st in
       let own : P n st (c level w st (λ s. with_label op.Switch at.level at.address line s go)) = pc level w n _ (λ s. h.a_use _ _ n _ _ (k _)) st in
@@ -102,15 +106,16 @@ module _ (P : Claim) (h : IsCarried P) where
   -- an evaluation has its room before it and its need behind it
   pub evaluation_carries : (kind need line : ℕ) (body : Code) → CodeCarries P body → Carries P (evaluation kind need line body)
   evaluation_carries kind need line body pb n go k st =
-      h.a_room _ _ n _ _ (pb 0 call_header (suc n) _ (λ s1. h.a_need _ _ n _ _ (k _)) _)
+      h.a_room _ _ n _ _ (pb 0 call_header (roomed n) _ (λ s1. h.a_need _ _ n _ _ (k _)) _)
 
   pub words_carry : (words : List ℕ) (line : ℕ) → Carries P (data_words words line)
   words_carry [] line n go k st = k st
   words_carry (v ∷ vs) line n go k st = h.a_word _ _ n _ _ (words_carry vs line n go k _)
 
-  pub jumped_carries : (line : ℕ) (piece : (start : ℕ) → State → Following → List Symbol) → ((start : ℕ) → Carries P (piece start)) → (n : ℕ) (go : (start : ℕ) → Following) → ((start : ℕ) (s : State) → P n s (go start s)) → (st : State) → P n st (jumped_over line st piece go)
+  pub jumped_carries : (line : ℕ) (piece : (start : ℕ) → State → Following → List Symbol) → ((start : ℕ) → Carries P (piece start)) → (n : Ahead) (go : (start : ℕ) → Following) → ((start : ℕ) (s : State) → P n s (go start s)) → (st : State) → P n st (jumped_over line st piece go)
   jumped_carries line piece pp n go k st =
-      h.a_new n _ _ (h.a_use _ _ n _ _ (h.a_new n _ _ (h.a_place _ _ n _ _ (pp _ n _ (λ s4. h.a_place _ _ n _ _ (k _ _)) _))))
+      let n1 = more n (one (first_label + st.labels)) in
+      h.a_new n _ _ (h.a_use _ _ n1 _ _ (h.a_new n1 _ _ (h.a_place _ _ n1 _ _ (pp _ n1 _ (λ s4. h.a_place _ _ n _ _ (k _ _)) _))))
 
   pub by_name_carries : (kind need line : ℕ) (body : Code) → CodeCarries P body → (v : ℕ) → Carries P (by_name kind need line body v)
   by_name_carries kind need line body pb v n go k st =
