@@ -1,0 +1,18 @@
+// The laws of the places of labels. They have no code: each says what its contract says.
+ghost use Rattle.gier_placed.specs.Laws.{LabelsAreAddresses, LabelsAreWithin};
+ghost use Rattle.gier_placed.specs.Placed.{AreNumbered};
+
+/// In the text 7 of a program whose scopes are right stand the labels that it declares, and those of its code, each once.
+pub fn law_placed()
+    ensures { AreNumbered }
+{}
+
+/// Where they are few enough, the address of each is the number of words before its place.
+pub fn law_label_addresses()
+    ensures { LabelsAreAddresses }
+{}
+
+/// Those that the program declares stand behind START and before STOP.
+pub fn law_labels_within()
+    ensures { LabelsAreWithin }
+{}
