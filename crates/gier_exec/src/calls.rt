@@ -43,7 +43,6 @@ pub(crate) fn call<D: Drum>(
     operation: Operation,
     order: Order,
 ) -> Result<u32, Miss>
-    requires order { IsOrder order }
     requires place { m.old.place < object.now.words }
     requires kept { IsKept frames.old }
     requires can { CanRead 3 object.now (pager_view D.room D.tracks D.journal D.faults pager.old) }
@@ -78,7 +77,6 @@ fn find<D: Drum>(
     operation: Operation,
     order: Order,
 ) -> Result<Entry, Miss>
-    requires order { IsOrder order }
     requires can { CanRead 3 object.now (pager_view D.room D.tracks D.journal D.faults pager.old) }
     ensures row { (tracks : List (List ℕ)) (input : List ℕ) → D.tracks pager.old.drum.now ≡ Some tracks
         → Agrees (Some tracks) pager.old.places.now.held
@@ -109,7 +107,6 @@ fn find_procedure<D: Drum>(
     pager: &mut Pager<D>,
     order: Order,
 ) -> Result<Entry, Miss>
-    requires order { IsOrder order }
     requires can { CanRead 3 object.now (pager_view D.room D.tracks D.journal D.faults pager.old) }
     ensures row { (tracks : List (List ℕ)) (input : List ℕ) → D.tracks pager.old.drum.now ≡ Some tracks
         → Agrees (Some tracks) pager.old.places.now.held
@@ -221,7 +218,6 @@ fn find_formal<D: Drum>(
     pager: &mut Pager<D>,
     order: Order,
 ) -> Result<Entry, Miss>
-    requires order { IsOrder order }
     requires can { CanRead 3 object.now (pager_view D.room D.tracks D.journal D.faults pager.old) }
     ensures row { (tracks : List (List ℕ)) (input : List ℕ) → D.tracks pager.old.drum.now ≡ Some tracks
         → Agrees (Some tracks) pager.old.places.now.held
@@ -344,7 +340,6 @@ fn find_compared<D: Drum>(
     pager: &mut Pager<D>,
     order: Order,
 ) -> Result<Entry, Miss>
-    requires order { IsOrder order }
     requires can { CanRead 3 object.now (pager_view D.room D.tracks D.journal D.faults pager.old) }
     ensures row { (tracks : List (List ℕ)) (input : List ℕ) → D.tracks pager.old.drum.now ≡ Some tracks
         → Agrees (Some tracks) pager.old.places.now.held

@@ -13,7 +13,6 @@ ghost use Rattle.gier_exec.specs.Numbers.{is_evaluation, is_choice};
 ghost use Rattle.gier_exec.specs.Following.{RefinesJump, RefinesValue};
 ghost use Rattle.gier_exec.specs.Searching.{RefinesSearch, RefinesReading};
 ghost use Rattle.gier_exec.specs.Beginning.{evaluation_row, choice_row};
-ghost use Rattle.gier_order.specs.Codes.{IsOrder};
 ghost use Rattle.gier_exec.specs.Registers.{PreservesPlace, Progresses};
 ghost use Rattle.gier_exec.specs.Reading.{PreservesPager, CanRead, Reads, pager_view};
 ghost use Rattle.gier_exec.specs.Finding.{IsFound};
@@ -44,7 +43,6 @@ pub(crate) fn evaluate<D: Drum>(
     operation: Operation,
     order: Order,
 ) -> Result<u32, Miss>
-    requires order { IsOrder order }
     requires place { m.old.place < object.now.words }
     requires can { CanRead 1 object.now (pager_view D.room D.tracks D.journal D.faults pager.old) }
     requires kept { IsKept frames.old }
@@ -79,7 +77,6 @@ pub(crate) fn choose<D: Drum>(
     operation: Operation,
     order: Order,
 ) -> Result<u32, Miss>
-    requires order { IsOrder order }
     requires place { m.old.place < object.now.words }
     requires can { CanRead 3 object.now (pager_view D.room D.tracks D.journal D.faults pager.old) }
     requires kept { IsKept frames.old }
@@ -153,7 +150,6 @@ fn find_formal<D: Drum>(
     operation: Operation,
     order: Order,
 ) -> Result<Evaluation, Miss>
-    requires order { IsOrder order }
     requires can { CanRead 1 object.now (pager_view D.room D.tracks D.journal D.faults pager.old) }
     ensures row { (tracks : List (List ℕ)) (m : Registers) (input : List ℕ) → D.tracks pager.old.drum.now ≡ Some tracks
         → Agrees (Some tracks) pager.old.places.now.held → frames.now.entered ≡ true → is_evaluation operation ≡ true
@@ -253,7 +249,6 @@ fn find_element<D: Drum>(
     operation: Operation,
     order: Order,
 ) -> Result<Option<Evaluation>, Miss>
-    requires order { IsOrder order }
     requires can { CanRead 3 object.now (pager_view D.room D.tracks D.journal D.faults pager.old) }
     ensures row { (tracks : List (List ℕ)) (input : List ℕ) → D.tracks pager.old.drum.now ≡ Some tracks
         → Agrees (Some tracks) pager.old.places.now.held
@@ -288,7 +283,6 @@ fn find_element<D: Drum>(
 
 // The address of a switch's table, and the base of the activation that encloses its elements.
 fn find_table(frames: &Frames, operation: Operation, order: Order) -> Result<(u64, u64), Stop>
-    requires { IsOrder order }
     ensures row { (code input : List ℕ) (m : Registers) → frames.now.entered ≡ true → is_choice operation ≡ true
         → RefinesValue (effect code (length frames.now.words) (regs_of m frames.now input) operation order.level order.address)
         (λ pair. switches code (length frames.now.words) (regs_of m frames.now input) pair.0 pair.1) result }

@@ -166,7 +166,6 @@ fn dispatch<D: Drum>(
     operation: Operation,
     order: Order,
 ) -> Result<u32, Miss>
-    requires order { IsOrder order }
     requires place { m.old.place < object.now.words }
     requires can { CanRead (2 * object.now.words + 1) object.now
         (pager_view D.room D.tracks D.journal D.faults pager.old) }
@@ -269,7 +268,6 @@ fn go_on(
     order: Order,
     words: u32,
 ) -> Result<u32, Miss>
-    requires order { IsOrder order }
     requires kept { IsKept frames.old }
     ensures row { (code input : List ℕ) → IsTrue (frames.old.entered || is_start operation) → length code ≡ words
         → is_plain operation ≡ true → RefinesOrder (effect code (length frames.old.words) (regs_of m.old frames.old input) operation

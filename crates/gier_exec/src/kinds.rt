@@ -11,7 +11,6 @@ ghost use Rattle.gier_exec.specs.Rows.{regs_of, code_in};
 ghost use Rattle.gier_exec.specs.Following.{RefinesValue};
 ghost use Rattle.gier_exec.specs.Searching.{RefinesSearch, RefinesReading};
 ghost use Rattle.gier_exec.specs.Agreeing.{match_row};
-ghost use Rattle.gier_order.specs.Codes.{IsOrder};
 ghost use Rattle.gier_exec.specs.Registers.{Registers, PreservesPlace, Progresses};
 ghost use Rattle.gier_exec.specs.Reading.{PreservesPager, CanRead, Reads, pager_view};
 ghost use Rattle.gier_exec.specs.declared.stop.Miss.TheVariants.{Drum as DrumFailed, Stop as Stopped};
@@ -53,7 +52,6 @@ pub(crate) fn compare<D: Drum>(
     pager: &mut Pager<D>,
     order: Order,
 ) -> Result<u32, Miss>
-    requires order { IsOrder order }
     requires place { m.now.place < object.now.words }
     requires can { CanRead (2 * object.now.words) object.now
         (pager_view D.room D.tracks D.journal D.faults pager.old) }
@@ -96,7 +94,6 @@ pub(crate) fn compare<D: Drum>(
 
 // The address in cell, which is that of a procedure that was handed over.
 fn formal_address(frames: &Frames, order: Order) -> Result<u64, Stop>
-    requires { IsOrder order }
     ensures row { (code input : List ℕ) (m : Registers) (go : ℕ → Row) → frames.now.entered ≡ true
         → RefinesValue (cell_word code (length frames.now.words) (regs_of m frames.now input) order.level order.address
         (λ place word. go word)) go result }
@@ -289,7 +286,6 @@ pub(crate) fn look_at_kind<D: Drum>(
     pager: &mut Pager<D>,
     order: Order,
 ) -> Result<u32, Miss>
-    requires order { IsOrder order }
     requires place { m.old.place < object.now.words }
     requires can { CanRead 2 object.now (pager_view D.room D.tracks D.journal D.faults pager.old) }
     ensures row { (tracks : List (List ℕ)) (input : List ℕ) → D.tracks pager.old.drum.now ≡ Some tracks

@@ -1,5 +1,5 @@
 // The orders that go on with the next one and read nothing of the object: values, places, arrays, blocks.
-ghost use Rattle.std.specs.Prelude.{◌≡◌, ◌+◌, ◌<◌, ◌≤◌, ◌^◌, ◌==◌, ◌||◌, ℕ, true, List, IfOk, Err, OnOk, IsTrue, length};
+ghost use Rattle.std.specs.Prelude.{◌≡◌, ◌+◌, ◌<◌, ◌≤◌, ◌^◌, ◌==◌, ◌||◌, ℕ, true, List, IfOk, Err, IsTrue, length};
 ghost use Rattle.std.specs.Prelude.{if◌then◌else◌};
 ghost use Rattle.gier_order.specs.declared.operation.Operation.TheVariants.{Index, Keep, Put, Lab, Array, Block, Start, Leave};
 ghost use Rattle.gier_order.specs.Flat.Row.{Row};
@@ -9,9 +9,7 @@ ghost use Rattle.gier_exec.specs.Registers.{Registers};
 ghost use Rattle.gier_exec.specs.Rows.{regs_of};
 ghost use Rattle.gier_exec.specs.Numbers.{is_combined, is_value, is_plain, is_start};
 ghost use Rattle.gier_exec.specs.Following.{RefinesValue, RefinesNext, RefinesResult};
-ghost use Rattle.gier_order.specs.Codes.{IsOrder};
 ghost use Rattle.gier_frames.specs.State.{IsKept};
-ghost use Rattle.gier_exec.specs.Registers.{PreservesPlace, weight};
 ghost use Rattle.gier_exec.specs.declared.stop.Stop.TheVariants.{Odd};
 
 use crate::Machine;
@@ -32,16 +30,12 @@ pub(crate) fn plain(
     operation: Operation,
     order: Order,
 ) -> Result<(), Stop>
-    requires order { IsOrder order }
     requires kept { IsKept frames.old }
     ensures row { (code input : List ℕ) → IsTrue (frames.old.entered || is_start operation) → is_plain operation ≡ true
         → m.old.place + 1 < length code → RefinesNext
         (effect code (length frames.old.words) (regs_of m.old frames.old input) operation order.level order.address)
         (regs_of m.new frames.new input) result }
-    ensures keeps { PreservesPlace m.old m.new }
-    ensures lighter { OnOk result (weight m.new ≤ weight m.old) }
-    ensures size { length frames.new.words ≡ length frames.old.words }
-    ensures odd { result ≡ Err Odd → (m.new ≡ m.old) × (frames.new ≡ frames.old) }
+    ensures stays { ObeysInPlace m.old m.new frames.old frames.new result }
 {
     match operation {
         Operation::Keep => keep(m, frames, order.address),
@@ -65,7 +59,6 @@ pub(crate) fn plain(
 // What R becomes by an order that changes nothing else.
 #[inline(always)]
 fn value(m: &Machine, frames: &Frames, operation: Operation, order: Order) -> Result<u64, Stop>
-    requires order { IsOrder order }
     requires kept { IsKept frames.now }
     ensures row { (code input : List ℕ) → frames.now.entered ≡ true → m.now.place + 1 < length code → is_value operation ≡ true
         → RefinesResult (effect code (length frames.now.words) (regs_of m.now frames.now input) operation order.level order.address)
@@ -110,7 +103,6 @@ fn combined(m: &Machine, frames: &Frames, operation: Operation, address: u32) ->
 // TAKE: cell.
 #[inline(always)]
 fn take(frames: &Frames, order: Order) -> Result<u64, Stop>
-    requires { IsOrder order }
     ensures row { (code input : List ℕ) (m : Registers) (go : ℕ → Row) → frames.now.entered ≡ true
         → RefinesValue (cell_word code (length frames.now.words) (regs_of m frames.now input) order.level order.address
         (λ place word. go word)) go result }
@@ -184,7 +176,6 @@ fn put(m: &mut Machine, frames: &mut Frames, address: u32) -> Result<(), Stop>
 
 // LAB: R := an address of the object, Q := the base of the visible activation of a level.
 fn form_label(m: &mut Machine, frames: &mut Frames, order: Order) -> Result<(), Stop>
-    requires { IsOrder order }
     ensures row { (code input : List ℕ) → frames.old.entered ≡ true → m.old.place + 1 < length code
         → RefinesNext (effect code (length frames.old.words) (regs_of m.old frames.old input) Lab order.level order.address)
         (regs_of m.new frames.new input) result }

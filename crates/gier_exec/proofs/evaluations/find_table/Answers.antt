@@ -18,7 +18,7 @@ returns-in-Ok c = record {
       let go : ℕ → Row = λ outer. switches code size regs c.args.order.address outer in
       rw (switch_is c.args.operation c.in_default.not-SwForm is) (rw c.from.ensures (
       base_only code input m c.args.frames.now c.args.order.level go ∙ c.in-Ok.ensures.row code input m go entered));
-  small = omega (arith, c.from.ensures, c.requires.address_fits);
+  small = omega (arith, c.from.ensures);
 }
 
 pub returns-in-Err : goal.returns-in-Err

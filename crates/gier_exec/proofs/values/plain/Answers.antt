@@ -30,8 +30,10 @@ returns-in-Err c =
       row = λ code input there is next.
           let value = plain_value c.args.operation others is in
           c.in-Err.ensures.row code input (entered_of _ (rw (value_starts c.args.operation value) at there)) next value;
-      keeps = record { place = refl; steps = omega arith };
-      lighter = tt;
-      size = refl;
-      odd = λ e. (refl, refl);
+      stays = record {
+        keeps = record { place = refl; steps = omega arith };
+        lighter = omega arith;
+        size = refl;
+        same = λ e. (refl, refl);
+      };
     }
