@@ -1,5 +1,6 @@
 -- How what a standard procedure prints, takes and leaves in R stands to its row of the order table.
-use Rattle.std.specs.Prelude.{◌≡◌, ◌+◌, ◌++◌, ℕ, ℤ, Bool, List, Option, Result, Ok, Err}
+use Rattle.std.specs.Prelude.{◌≡◌, ◌≤◌, ◌+◌, ◌++◌, ℕ, ℤ, Bool, List, Option, Result, Ok, Err}
+use Rattle.gier_word.specs.Cause.{HasRisen}
 use Rattle.gier_word.specs.Words.{word_of_int}
 use Rattle.gier_word.specs.Alarm.{alarm_of}
 use Rattle.gier_word.specs.Standard.{Reading}
@@ -14,6 +15,11 @@ use Rattle.gier_exec.specs.declared.stop.Quit.{Quit}
 use Rattle.gier_exec.specs.declared.stop.Quit.TheVariants.{Miss as Missed, Read, Write}
 use Rattle.gier_exec.specs.Registers.{Registers}
 use Rattle.gier_exec.specs.Turning.{printing_row, StartsWith}
+
+-- a device's count of faults doesn't fall, and rose where the order stopped by this device's failure
+pub record CountsFailure {A : Type 0} (failure : Quit) (old new : ℕ) (result : Result A Quit) : Type 0 where
+  pub later : old ≤ new
+  pub failed : result ≡ Err failure → HasRisen old new
 
 -- the address of the order after, where the procedure lets the run go on
 abbrev pub on_from : ℕ → Result (Unit {0}) Quit → Result ℕ Quit

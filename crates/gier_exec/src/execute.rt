@@ -15,7 +15,7 @@ ghost use Rattle.gier_exec.specs.Turning.{IsRest, RefinesExecution};
 ghost use Rattle.gier_io.specs.Device.{Puts};
 ghost use Rattle.gier_library.specs.Data.{Takes};
 ghost use Rattle.gier_exec.specs.Numbers.{is_jump, is_plain, is_start};
-ghost use Rattle.gier_word.specs.Cause.{HasRisen};
+ghost use Rattle.gier_exec.specs.Standards.{CountsFailure};
 ghost use Rattle.gier_library.specs.DataView.{source_of, has_ended, stand_of};
 ghost use Rattle.gier_order.specs.Codes.{IsOrder};
 ghost use Rattle.gier_exec.specs.Registers.{PreservesPlace, Progresses};
@@ -74,10 +74,8 @@ pub(crate) fn execute<D: Drum, S: Source, K: Sink>(
         (pager_view D.room D.tracks D.journal D.faults pager.old)
         (pager_view D.room D.tracks D.journal D.faults pager.new) }
     ensures same_reference { input.new.source.ghost_name ≡ input.old.source.ghost_name }
-    ensures source_later { S.faults (source_of input.old) ≤ S.faults (source_of input.new) }
-    ensures source_failed { result ≡ Err Read → HasRisen (S.faults (source_of input.old)) (S.faults (source_of input.new)) }
-    ensures sink_later { K.faults out.old ≤ K.faults out.new }
-    ensures sink_failed { result ≡ Err Write → HasRisen (K.faults out.old) (K.faults out.new) }
+    ensures source { CountsFailure Read (S.faults (source_of input.old)) (S.faults (source_of input.new)) result }
+    ensures sink { CountsFailure Write (K.faults out.old) (K.faults out.new) result }
     ensures pager { PreservesPager D.faults (Missed DrumFailed) pager.old pager.new result }
     ensures spoilt { result ≡ Err (Missed (Stopped Odd)) → (m.new ≡ m.old)
         × ((frames.new ≡ frames.old) × ((out.new ≡ out.old) × (input.new ≡ input.old))) }
@@ -137,10 +135,8 @@ fn procedure<D: Drum, S: Source, K: Sink>(
         (pager_view D.room D.tracks D.journal D.faults pager.old)
         (pager_view D.room D.tracks D.journal D.faults pager.new) }
     ensures same_reference { input.new.source.ghost_name ≡ input.old.source.ghost_name }
-    ensures source_later { S.faults (source_of input.old) ≤ S.faults (source_of input.new) }
-    ensures source_failed { result ≡ Err Read → HasRisen (S.faults (source_of input.old)) (S.faults (source_of input.new)) }
-    ensures sink_later { K.faults out.old ≤ K.faults out.new }
-    ensures sink_failed { result ≡ Err Write → HasRisen (K.faults out.old) (K.faults out.new) }
+    ensures source { CountsFailure Read (S.faults (source_of input.old)) (S.faults (source_of input.new)) result }
+    ensures sink { CountsFailure Write (K.faults out.old) (K.faults out.new) result }
     ensures pager { PreservesPager D.faults (Missed DrumFailed) pager.old pager.new result }
     ensures odd { result ≡ Err (Missed (Stopped Odd)) → (m.new ≡ m.old) × ((out.new ≡ out.old) × (input.new ≡ input.old)) }
 {

@@ -1,7 +1,7 @@
 // The standard procedures, on R, on the data and on the printer.
 ghost use Rattle.std.specs.Prelude.{◌≡◌, ◌≢◌, ◌+◌, ◌*◌, ◌/◌, ◌%◌, ◌<◌, ◌≤◌, ◌^◌, ◌++◌, ℕ, List, [], min, take, length, Some};
 ghost use Rattle.std.specs.Prelude.{Ok, Err};
-ghost use Rattle.gier_word.specs.Cause.{HasCause, HasRisen};
+ghost use Rattle.gier_word.specs.Cause.{HasCause};
 ghost use Rattle.gier_word.specs.Words.{int_of_word};
 ghost use Rattle.gier_word.specs.Standard.{integer_text, character_text, integer_read, character_read};
 ghost use Rattle.gier_io.specs.Device.{Puts};
@@ -14,7 +14,7 @@ ghost use Rattle.gier_order.specs.Flat.Rows.{bytes_of as bytes_in, piece, on, pr
 ghost use Rattle.gier_exec.specs.Rows.{regs_of, code_in};
 ghost use Rattle.gier_exec.specs.References.{Refers};
 ghost use Rattle.gier_exec.specs.Turning.{IsRest, RefinesExecution};
-ghost use Rattle.gier_exec.specs.Standards.{on_from, Sends, Computes, Receives, PrintsOn};
+ghost use Rattle.gier_exec.specs.Standards.{on_from, Sends, Computes, Receives, PrintsOn, CountsFailure};
 ghost use Rattle.gier_exec.specs.Registers.{PreservesPlace, weight};
 ghost use Rattle.gier_exec.specs.Reading.{PreservesPager, CanRead, Reads, pager_view};
 ghost use Rattle.gier_exec.specs.declared.stop.Miss.TheVariants.{Drum as DrumFailed, Stop as Stopped};
@@ -82,10 +82,8 @@ pub(crate) fn library<D: Drum, S: Source, K: Sink>(
         (pager_view D.room D.tracks D.journal D.faults pager.old)
         (pager_view D.room D.tracks D.journal D.faults pager.new) }
     ensures same_reference { input.new.source.ghost_name ≡ input.old.source.ghost_name }
-    ensures source_later { S.faults (source_of input.old) ≤ S.faults (source_of input.new) }
-    ensures source_failed { result ≡ Err Read → HasRisen (S.faults (source_of input.old)) (S.faults (source_of input.new)) }
-    ensures sink_later { K.faults out.old ≤ K.faults out.new }
-    ensures sink_failed { result ≡ Err Write → HasRisen (K.faults out.old) (K.faults out.new) }
+    ensures source { CountsFailure Read (S.faults (source_of input.old)) (S.faults (source_of input.new)) result }
+    ensures sink { CountsFailure Write (K.faults out.old) (K.faults out.new) result }
     ensures pager { PreservesPager D.faults (Missed DrumFailed) pager.old pager.new result }
     ensures odd { result ≡ Err (Missed (Stopped Odd)) → (m.new ≡ m.old) × ((out.new ≡ out.old) × (input.new ≡ input.old)) }
 {
@@ -108,8 +106,7 @@ fn print_integer<K: Sink>(r: u64, out: &mut K) -> Result<(), Quit>
     ensures sends { Sends K.holds (Ok (integer_text (int_of_word r))) out.old result out.new }
     ensures homely { result ≢ Err (Missed DrumFailed) }
     ensures no_read { result ≢ Err Read }
-    ensures sink_later { K.faults out.old ≤ K.faults out.new }
-    ensures sink_failed { result ≡ Err Write → HasRisen (K.faults out.old) (K.faults out.new) }
+    ensures sink { CountsFailure Write (K.faults out.old) (K.faults out.new) result }
     ensures no_odd { result ≢ Err (Missed (Stopped Odd)) }
 {
     match out_integer(number_of(r), out) {
@@ -124,8 +121,7 @@ fn print_character<K: Sink>(r: u64, out: &mut K) -> Result<(), Quit>
     ensures sends { Sends K.holds (character_text (int_of_word r)) out.old result out.new }
     ensures homely { result ≢ Err (Missed DrumFailed) }
     ensures no_read { result ≢ Err Read }
-    ensures sink_later { K.faults out.old ≤ K.faults out.new }
-    ensures sink_failed { result ≡ Err Write → HasRisen (K.faults out.old) (K.faults out.new) }
+    ensures sink { CountsFailure Write (K.faults out.old) (K.faults out.new) result }
     ensures no_odd { result ≢ Err (Missed (Stopped Odd)) }
 {
     match out_char(number_of(r), out) {
@@ -147,8 +143,7 @@ fn print_bytes<K: Sink>(bytes: &[u8], out: &mut K) -> Result<(), Quit>
     ensures sends { Sends K.holds (Ok bytes.now) out.old result out.new }
     ensures homely { result ≢ Err (Missed DrumFailed) }
     ensures no_read { result ≢ Err Read }
-    ensures sink_later { K.faults out.old ≤ K.faults out.new }
-    ensures sink_failed { result ≡ Err Write → HasRisen (K.faults out.old) (K.faults out.new) }
+    ensures sink { CountsFailure Write (K.faults out.old) (K.faults out.new) result }
     ensures no_odd { result ≢ Err (Missed (Stopped Odd)) }
 {
     match out_bytes(bytes, out) {
@@ -166,8 +161,7 @@ fn take_integer<S: Source>(m: &mut Machine, input: &mut Data<S>) -> Result<(), Q
     ensures keeps { PreservesPlace m.old m.new }
     ensures lighter { weight m.new ≤ weight m.old }
     ensures same_reference { input.new.source.ghost_name ≡ input.old.source.ghost_name }
-    ensures source_later { S.faults (source_of input.old) ≤ S.faults (source_of input.new) }
-    ensures source_failed { result ≡ Err Read → HasRisen (S.faults (source_of input.old)) (S.faults (source_of input.new)) }
+    ensures source { CountsFailure Read (S.faults (source_of input.old)) (S.faults (source_of input.new)) result }
     ensures no_odd { result ≢ Err (Missed (Stopped Odd)) }
 {
     match in_integer(input) {
@@ -189,8 +183,7 @@ fn take_character<S: Source>(m: &mut Machine, input: &mut Data<S>) -> Result<(),
     ensures keeps { PreservesPlace m.old m.new }
     ensures lighter { weight m.new ≤ weight m.old }
     ensures same_reference { input.new.source.ghost_name ≡ input.old.source.ghost_name }
-    ensures source_later { S.faults (source_of input.old) ≤ S.faults (source_of input.new) }
-    ensures source_failed { result ≡ Err Read → HasRisen (S.faults (source_of input.old)) (S.faults (source_of input.new)) }
+    ensures source { CountsFailure Read (S.faults (source_of input.old)) (S.faults (source_of input.new)) result }
     ensures no_odd { result ≢ Err (Missed (Stopped Odd)) }
 {
     match in_char(input) {
@@ -243,8 +236,7 @@ fn print_text<D: Drum, K: Sink>(
     ensures reads { Reads (object.now.words + 1) object.now
         (pager_view D.room D.tracks D.journal D.faults pager.old)
         (pager_view D.room D.tracks D.journal D.faults pager.new) }
-    ensures sink_later { K.faults out.old ≤ K.faults out.new }
-    ensures sink_failed { result ≡ Err Write → HasRisen (K.faults out.old) (K.faults out.new) }
+    ensures sink { CountsFailure Write (K.faults out.old) (K.faults out.new) result }
     ensures pager { PreservesPager D.faults (Missed DrumFailed) pager.old pager.new result }
     ensures odd { result ≡ Err (Missed (Stopped Odd)) → out.new ≡ out.old }
 {
@@ -282,8 +274,7 @@ fn print_words<D: Drum, K: Sink>(
     ensures reads { Reads ((length + 4) / 5) object.now
         (pager_view D.room D.tracks D.journal D.faults pager.old)
         (pager_view D.room D.tracks D.journal D.faults pager.new) }
-    ensures sink_later { K.faults out.old ≤ K.faults out.new }
-    ensures sink_failed { result ≡ Err Write → HasRisen (K.faults out.old) (K.faults out.new) }
+    ensures sink { CountsFailure Write (K.faults out.old) (K.faults out.new) result }
     ensures pager { PreservesPager D.faults (Missed DrumFailed) pager.old pager.new result }
     ensures no_odd { result ≢ Err (Missed (Stopped Odd)) }
 {
@@ -316,8 +307,7 @@ fn print_word<D: Drum, K: Sink>(
     ensures no_read { result ≢ Err Read }
     ensures reads { Reads 1 object.now (pager_view D.room D.tracks D.journal D.faults pager.old)
         (pager_view D.room D.tracks D.journal D.faults pager.new) }
-    ensures sink_later { K.faults out.old ≤ K.faults out.new }
-    ensures sink_failed { result ≡ Err Write → HasRisen (K.faults out.old) (K.faults out.new) }
+    ensures sink { CountsFailure Write (K.faults out.old) (K.faults out.new) result }
     ensures pager { PreservesPager D.faults (Missed DrumFailed) pager.old pager.new result }
     ensures odd { result ≡ Err (Missed (Stopped Odd)) → object.now.words ≤ address }
 {

@@ -32,7 +32,7 @@ returns-in-Err-clause-row g c = λ tracks told agrees.
 pub loop-at-preserved : goal.loop-at-preserved
 loop-at-preserved g c = (
   reads_joined c.loop-at.at 1 (c.loop-at.at + 1) _ _ _ _ c.loop-at.invariant.0 c.print_word.ensures.reads (omega arith),
-  omega (arith, c.loop-at.invariant.1, c.print_word.ensures.sink_later),
+  omega (arith, c.loop-at.invariant.1, c.print_word.ensures.sink.later),
   same_pager_both _ _ _ c.loop-at.invariant.2 c.print_word.ensures.pager.same,
   λ tracks told agrees.
       let object = c.args.object.now in
