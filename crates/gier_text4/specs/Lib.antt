@@ -1,0 +1,4 @@
+pub mod Kinds
+pub mod State
+pub mod PurePass
+pub mod Text4
