@@ -1,0 +1,15 @@
+pub mod Copying
+pub mod CopiedExpressions
+pub mod DeclaredNames
+pub mod Calm
+pub mod DeclaredVariables
+pub mod Bounds
+pub mod DeclaredArrays
+pub mod OwnArrays
+pub mod Headings
+pub mod Standing
+pub mod Scopes
+pub mod CopiedStatements
+pub mod Statements
+pub mod Frames
+pub mod Programs

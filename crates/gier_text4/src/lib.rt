@@ -3,4 +3,4 @@
 
 mod laws;
 
-pub use laws::law_text4_examples;
+pub use laws::{law_text4, law_text4_examples};
