@@ -20,9 +20,9 @@ use Rattle.gier_tree.specs.Kinds.{kind_number}
 use Rattle.gier_tree.specs.Texts.{kinds_listed}
 use Rattle.gier_tree.specs.Trees.{ValueType, IntegerType, BooleanType}
 use Rattle.gier_text4.specs.Kinds.{Specified, MkSpecified, typed_specification, worded_specification, declared_kind, formal_in}
-use Rattle.gier_text4.specs.State.{Owning, NotOwn, MayBeOwn, IsOwn, Frame, NoFrame, WholeFrame, FrameBegin, Place, Statements, InType}
-use Rattle.gier_text4.specs.State.{InSegment, BetweenSegments, InSwitch, InHeading, State, MkState, start, put, put_out, in_place}
-use Rattle.gier_text4.specs.State.{place_of, on_scope, note, lined, typed, settled}
+use Rattle.gier_text4.specs.State.{Owning, NotOwn, MayBeOwn, IsOwn, Frame, NoFrame, WholeFrame, FrameBegin, Place, Statements}
+use Rattle.gier_text4.specs.State.{InType, InSegment, BetweenSegments, InSwitch, InHeading, State, MkState, start, put, put_out}
+use Rattle.gier_text4.specs.State.{in_place, place_of, on_scope, note, lined, typed, settled}
 
 -- entries, before their kind is known
 abbrev pub untyped : (x : ℕ) → (behind : List Symbol) → List Symbol
@@ -240,7 +240,8 @@ pub data Marks : Type 0 where
 abbrev pub marks : (construct : ℕ) → Marks
 marks n = if n == construct_number CProgram then MarksProgram else if n == construct_number CBlock then MarksScope
     else if n == construct_number ControlledStatement then MarksScope
-    else if n == construct_number ProcedureDeclaration then MarksProcedure else if n == construct_number ProcedureBody then MarksBody
+    else if n == construct_number ProcedureDeclaration then MarksProcedure
+    else if n == construct_number ProcedureBody then MarksBody
     else if n == construct_number TypeDeclaration then MarksType else if n == construct_number ArraySegment then MarksSegment
     else if n == construct_number SwitchDeclaration then MarksSwitch else if n == construct_number Bound then MarksBound
     else MarksOther

@@ -20,8 +20,8 @@ pub data Frame : Type 0 where
   WholeFrame : (line : ℕ) → Frame
   FrameBegin : Frame
 
--- Where the next symbol stands. In declarations of variables and arrays the entries wait of which the type wasn't read, those of the
--- scope and those of own quantities; a heading has what it says of its formals and the procedure's identifier.
+-- Where the next symbol stands. In declarations of variables and arrays those entries wait of which the type wasn't read, of the
+-- scope and of own quantities; a heading has what it says of its formals, and the procedure's identifier.
 pub data Place : Type 0 where
   Statements : Place
   InType : (held held_owns : List Symbol) → Place
