@@ -1,0 +1,4 @@
+pub mod Rising
+pub mod Fitting
+pub mod Closing
+pub mod Ladder

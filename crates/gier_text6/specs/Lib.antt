@@ -1,0 +1,12 @@
+pub mod PlacedFaults
+pub mod Operators
+pub mod Decoded
+pub mod PassState
+pub mod Entering
+pub mod Uses
+pub mod Ending
+pub mod Constructs
+pub mod PurePass
+pub mod Positions
+pub mod PlacedExpressions
+pub mod JudgedExpressions
