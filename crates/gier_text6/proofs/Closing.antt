@@ -62,7 +62,7 @@ le_trans a b c h g = grind (arith, nat_tests)
 le_not : (n m l : ℕ) → nat_le n m ≡ true → nat_le n l ≡ false → nat_le m l ≡ false
 le_not n m l h g = grind (arith, nat_tests)
 
-zero_le : (n : ℕ) → nat_le 0 n ≡ true
+pub zero_le : (n : ℕ) → nat_le 0 n ≡ true
 zero_le n = grind (arith, nat_tests)
 
 pub closes_up : (W : World) (n m : ℕ) (k : List Symbol) → nat_le n m ≡ true → Closes W n k → Closes W m k

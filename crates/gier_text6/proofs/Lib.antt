@@ -2,3 +2,5 @@ pub mod Rising
 pub mod Fitting
 pub mod Closing
 pub mod Ladder
+pub mod Parts
+pub mod FittingParts

@@ -60,7 +60,7 @@ opens_actual st n l c = core c.world (Passing NoFormals AnyExpected n l ∷ st) 
 
 abbrev pub opens_bound : List Open → (position line : ℕ) → Core → Core
 opens_bound (InSegment a ∷ st) n l c =
-    core c.world (Bounding (suc a) n l ∷ InSegment (suc a) ∷ st) c.value (raises n l (too_long most_bounds a) c.found)
+    core c.world (Bounding a n l ∷ InSegment (suc a) ∷ st) c.value (raises n l (too_long most_bounds a) c.found)
 opens_bound st n l c = core c.world (Bounding 0 n l ∷ st) c.value c.found
 
 abbrev pub with_stack : List Open → Core → Core
@@ -107,9 +107,6 @@ actual_ends fits q l (Calls d w e (suc (suc a)) r i first ∷ st) c =
     (raises q l (further most_actuals (suc a) fits WrongActual) c.found)
 actual_ends fits q l st c = with_stack st c
 
-abbrev pub bound_kinds : (count : ℕ) → ExprType → List TypeFault
-bound_kinds count v = falls (not (count == suc most_bounds) && not (agree OfInteger v)) WrongBound
-
 abbrev pub wants : ExprType → TypeFault → (position line : ℕ) → List Open → Core → Core
 wants t kind q l st c = core c.world st c.value (raises q l (falls (not (agree t c.value)) kind) c.found)
 
@@ -122,7 +119,8 @@ shuts_top (Some ProcedureDeclaration) (InProcedure number ∷ st) c =
 shuts_top (Some ConditionalStatement) (Deciding q l ∷ st) c = with_stack st c
 shuts_top (Some Actual) (Passing w e q l ∷ st) c = actual_ends (type_fits_in w c.value) q l st c
 shuts_top (Some Subscript) (Subscripting q l ∷ st) c = subscript_ends (agree OfInteger c.value) q l st c
-shuts_top (Some Bound) (Bounding a q l ∷ st) c = core c.world st c.value (raises q l (bound_kinds a c.value) c.found)
+shuts_top (Some Bound) (Bounding a q l ∷ st) c =
+    core c.world st c.value (raises q l (further most_bounds a (agree OfInteger c.value) WrongBound) c.found)
 shuts_top (Some SwitchElement) (Choosing q l ∷ st) c = wants OfLabel WrongTarget q l st c
 shuts_top (Some ForElement) (Turning q l ∷ st) c = wants OfInteger WrongElement q l st c
 shuts_top (Some ForElement) (Repeating q l ∷ st) c = wants OfBoolean WrongCondition q l st c

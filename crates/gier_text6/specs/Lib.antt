@@ -10,3 +10,5 @@ pub mod PurePass
 pub mod Positions
 pub mod PlacedExpressions
 pub mod JudgedExpressions
+pub mod PlacedParts
+pub mod JudgedParts

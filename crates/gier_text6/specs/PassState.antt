@@ -50,7 +50,7 @@ pub data Open : Type 0 where
   -- parts with the symbol before them
   Subscripting : (position line : ℕ) → Open
   Passing : Wanted → Expected → (position line : ℕ) → Open
-  Bounding : (count position line : ℕ) → Open
+  Bounding : (before position line : ℕ) → Open
   Choosing : (position line : ℕ) → Open
   Turning : (position line : ℕ) → Open
   Repeating : (position line : ℕ) → Open

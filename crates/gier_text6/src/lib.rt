@@ -11,4 +11,4 @@
 
 mod laws;
 
-pub use laws::law_judged_expressions;
+pub use laws::{law_judged_expressions, law_judged_parts};
