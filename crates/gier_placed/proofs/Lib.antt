@@ -6,3 +6,5 @@ pub mod Numbers
 pub mod Once
 pub mod Addresses
 pub mod Within
+pub mod RightOrders
+pub mod Completing

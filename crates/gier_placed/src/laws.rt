@@ -1,4 +1,5 @@
 // The laws of the places of labels. They have no code: each says what its contract says.
+ghost use Rattle.gier_placed.specs.Fitting.{FittingAreComplete};
 ghost use Rattle.gier_placed.specs.Laws.{LabelsAreAddresses, LabelsAreWithin};
 ghost use Rattle.gier_placed.specs.Placed.{AreNumbered};
 
@@ -15,4 +16,9 @@ pub fn law_label_addresses()
 /// Those that the program declares stand behind START and before STOP.
 pub fn law_labels_within()
     ensures { LabelsAreWithin }
+{}
+
+/// A text 7 is complete where its sizes are those of so many bytes, its used labels stand, and its levels and rooms fit.
+pub fn law_complete_where_fitting()
+    ensures { FittingAreComplete }
 {}
