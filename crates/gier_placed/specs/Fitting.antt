@@ -1,5 +1,5 @@
--- What is left to ask of a text 7 so that it is complete: that its sizes are those of a program of so many bytes, that a label which
--- is used stands in it, and that levels and rooms fit their fields.
+-- What is left to ask of a text 7 so that it is complete: that its sizes are those of a program of so many bytes, that a label
+-- which is used stands in it, and that levels and rooms fit their fields.
 use Rattle.std.specs.Prelude.{◌≡◌, ◌<◌, ◌≤◌, ◌+◌, ◌*◌, ◌/◌, ◌^◌, ⊤, ℕ, suc, true, List, [], ◌∷◌, length}
 use Rattle.gier_symbol.specs.declared.symbol.Symbol.{Symbol}
 use Rattle.gier_tree.specs.Complete.{IsComplete, IsOrderNumber, is_placed}
