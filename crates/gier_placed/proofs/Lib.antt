@@ -8,3 +8,4 @@ pub mod Addresses
 pub mod Within
 pub mod RightOrders
 pub mod Completing
+pub mod Examples

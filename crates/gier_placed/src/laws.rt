@@ -1,4 +1,5 @@
 // The laws of the places of labels. They have no code: each says what its contract says.
+ghost use Rattle.gier_placed.specs.Examples.{AreExamples};
 ghost use Rattle.gier_placed.specs.Fitting.{FittingAreComplete};
 ghost use Rattle.gier_placed.specs.Laws.{LabelsAreAddresses, LabelsAreWithin};
 ghost use Rattle.gier_placed.specs.Placed.{AreNumbered};
@@ -21,4 +22,9 @@ pub fn law_labels_within()
 /// A text 7 is complete where its sizes are those of so many bytes, its used labels stand, and its levels and rooms fit.
 pub fn law_complete_where_fitting()
     ensures { FittingAreComplete }
+{}
+
+/// A small program has its labels' places in the order of its text, and what is asked of it holds.
+pub fn law_placed_examples()
+    ensures { AreExamples }
 {}

@@ -3,4 +3,7 @@
 
 mod laws;
 
-pub use laws::{law_complete_where_fitting, law_label_addresses, law_labels_within, law_placed};
+pub use laws::{
+    law_complete_where_fitting, law_label_addresses, law_labels_within, law_placed,
+    law_placed_examples,
+};
