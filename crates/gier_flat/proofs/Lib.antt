@@ -30,6 +30,7 @@ mod BlockEntries
 mod LabelPlaces
 mod BlockActivation
 mod BlockRooms
+mod BlockNumbers
 mod Pieces
 mod DeclaredQuantities
 mod Labels
