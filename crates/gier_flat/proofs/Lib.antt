@@ -31,6 +31,7 @@ mod LabelPlaces
 mod BlockActivation
 mod BlockRooms
 mod BlockNumbers
+mod DeclaredBlock
 mod Pieces
 mod DeclaredQuantities
 mod Labels
