@@ -14,10 +14,10 @@ use Rattle.gier_tree.specs.Text7.{code_group, code_statement}
 use Rattle.gier_tree.specs.Texts.{Where}
 use Rattle.gier_tree.specs.Trees.{Expr, Group, MkCompound, Statement, NoStatements}
 use Rattle.gier_tree.specs.Words.{HasStop, stop_tag}
-use Rattle.gier_complete.proofs.Passing.{IsNoStop, Claim, IsCarried, CodeCarries}
+use Rattle.gier_complete.proofs.Passing.{IsNoStop, Ahead, Claim, IsCarried, CodeCarries, none}
 use Rattle.gier_complete.proofs.ExpressionsCarry.{expr_carries}
 use Rattle.gier_complete.proofs.OrderPieces.{piece_is, is_another}
-use Rattle.gier_complete.proofs.StatementsCarry.{group_carries}
+use Rattle.gier_complete.proofs.StatementsCarry.{group_so}
 use Rattle.gier_flat.proofs.Positions.{At, behind}
 use Rattle.gier_flat.proofs.Continuations.{Passes}
 
@@ -42,16 +42,21 @@ module _ (text : List Symbol) (size : ℕ) (ends : HasStop text) where
       a_place = λ value line n st rest h le at. h le (behind text st st _ rest at (λ e. absurd (omega (arith, e))) (omega arith));
       a_need = λ value line n st rest h le at. h le (behind text st st _ rest at (λ e. absurd (omega (arith, e))) (omega arith));
       a_new = λ n st rest h le at. h le (record { before = at.before; whole = at.whole; count = at.count; open_yet = at.open_yet });
+      same = λ n m rooms places st rest h. h;
     }
 
+  -- nothing is asked of what follows
+  abbrev nothing : Ahead
+  nothing = record { rooms = 0; places = none }
+
   pub passes : (c : Code) → ((P : Claim) → IsCarried P → CodeCarries P c) → (level w : ℕ) → Passes text size ends (c level w)
-  passes c carry level w st go at = carry (Comes st go) (carried st go) level w 0 go (λ s le at1. (s, at1, le)) st (omega arith) at
+  passes c carry level w st go at = carry (Comes st go) (carried st go) level w nothing go (λ s le at1. (s, at1, le)) st (omega arith) at
 
   pub expr_passes : (p : Places) (e : Expr) (level w : ℕ) → Passes text size ends (code_expr p e level w)
   expr_passes p e = passes (code_expr p e) (λ P h. expr_carries P h p e)
 
   pub group_passes : (p : Places) (at : Where) (g : Group) (level w : ℕ) → Passes text size ends (code_group p at g level w)
-  group_passes p at g = passes (code_group p at g) (λ P h. group_carries P h p at g)
+  group_passes p at g level w st go at1 = group_so (Comes st go) (carried st go) p at g level w nothing go (λ s le at2. (s, at2, le)) st (omega arith) at1
 
   -- it is a group of its own
   pub statement_passes : (p : Places) (at : Where) (s : Statement) (level w : ℕ) → Passes text size ends (code_statement p at s level w)

@@ -294,5 +294,5 @@ module _ (setting : Setting) (K : Known) (w0 need0 : ℕ) (env : Env) (p : Place
               inr (omega arith, omega arith),
               tt,
               subst (λ u. Chain setting.text K1 m1.regs.words m1.regs.marks (a ∷ more) u top) (sym old)
-              (chain_keeps setting.text K K1 m.regs.words m1.regs.words m.regs.marks m1.regs.marks (λ q i. inl i) same (λ q i. put_elsewhere m.regs.marks top 0 q (λ f. let l = h.low q i in absurd (omega (arith, f, l)))) (a ∷ more) m.regs.base m.regs.top c),
+                  (chain_keeps setting.text K K1 m.regs.words m1.regs.words m.regs.marks m1.regs.marks (λ q i. inl i) same (λ q i. put_elsewhere m.regs.marks top 0 q (λ f. let l = h.low q i in absurd (omega (arith, f, l)))) (a ∷ more) m.regs.base m.regs.top c),
             )

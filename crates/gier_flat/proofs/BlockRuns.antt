@@ -22,20 +22,17 @@ use Rattle.gier_flat.proofs.OrderRows.{Machine}
 use Rattle.gier_flat.proofs.StackRelation.{Known, RunInvariant, RefinesOutcome, Behind}
 use Rattle.gier_flat.proofs.Assignments.{NothingShown}
 use Rattle.gier_flat.proofs.Setting.{Setting}
-use Rattle.gier_flat.proofs.Scopes.{IsScope, Outside}
-
--- identifiers whose places are in activations of this level or further out, and none of them has formals
-abbrev pub AreWithin : Places → (level : ℕ) → Type 0
-AreWithin p level = (x : ℕ) → ((p x).level ≤ level) × ((p x).what.formals ≡ [])
+use Rattle.gier_flat.proofs.NextRuns.{IsScope, Outside}
+pub use Rattle.gier_flat.proofs.NextRuns.{AreWithin}
 
 module _ (setting : Setting) where
   -- the statements of a scope, in the scope's activation, with the gos to its labels
   abbrev pub ScopeRuns : (steps : ℕ) (q : Places) (at : Where) (ss : tree.Statements) (level : ℕ) → Type 1
   ScopeRuns steps q at ss level =
       (env : Env) (lives : Live) (own : List ℕ) (K : Known) (w : ℕ) (m : Machine) (s : State Closure) (st : code.State) (go : Following) → s.left ≤ steps
-      → RunInvariant setting.text setting.size K w (need_statements (scopes_of q) ss) env q m s lives → IsScope setting env q lives own (λ label. have label env (statements ss)) K m
+      → RunInvariant setting.text setting.size K w (need_statements (scopes_of q) ss) env q m s lives → IsScope setting own (λ label. have label env (statements ss)) K m
       → At setting.text st (code_statements q at ss level w st go) → m.regs.place ≡ st.words
-      → RefinesOutcome setting.text setting.size Finished K (Outside setting env q lives own (statements ss) (need_statements (scopes_of q) ss) (code_statements q at ss level) (λ label. have label env (statements ss)) K) m s (Behind setting.text setting.size go) m.regs.base m.regs.top (NothingShown setting K) (caught own (λ label s1. (within setting.size steps).rest label own (statements ss) env lives s1) (run_all setting.size (within setting.size steps) (statements ss) env lives s))
+      → RefinesOutcome setting.text setting.size Finished K (Outside setting own K) m s (Behind setting.text setting.size go) m.regs.base m.regs.top (NothingShown setting K) (caught own (λ label s1. (within setting.size steps).rest label own (statements ss) env lives s1) (run_all setting.size (within setting.size steps) (statements ss) env lives s))
 
   -- a block, from its order BLOCK on behind its order LEAVE; what runs within it has fewer steps left
   abbrev pub BlockRuns : (steps : ℕ) (p : Places) (at : Where) (g : Group) (level : ℕ) → Type 1

@@ -27,7 +27,7 @@ use Rattle.gier_flat.proofs.StackRelation.{Known, sort, RunInvariant, RefinesOut
 use Rattle.gier_flat.proofs.Composition.{MovesTo}
 use Rattle.gier_flat.proofs.Assignments.{NothingShown}
 use Rattle.gier_flat.proofs.Setting.{Setting}
-use Rattle.gier_flat.proofs.Scopes.{IsScope, Outside}
+use Rattle.gier_flat.proofs.NextRuns.{IsScope, Outside}
 use Rattle.gier_flat.proofs.BlockRuns.{ScopeRuns}
 use Rattle.gier_flat.proofs.NewActivation.{StackBelow, under_here, NewActivation, Inner, inner_within, opens, opened_end, opened_old}
 use Rattle.gier_flat.proofs.BlockEntry.{entered, entered_state, entered_moves, enters, leaves, body_at, base_low}
@@ -66,7 +66,7 @@ module _ (setting : Setting) where
           under : StackBelow setting.text setting.size K m s m.regs.top
           under = under_here setting.text setting.size K w0 need0 env p m s lives h
 
-          scope : IsScope setting env1 q live1 own (λ label. have label env1 (statements ss)) K1 (m1 left)
+          scope : IsScope setting own (λ label. have label env1 (statements ss)) K1 (m1 left)
           scope = record {
             labels = λ d b a is l. ⊎_elim (λ x. let old = h.known_label d b a x in let fresh = ours d is in absurd (omega (arith, old, fresh))) (λ x. (x.0, (its d a x.1).1)) l;
             end = inr (omega arith, omega arith);
@@ -87,7 +87,7 @@ module _ (setting : Setting) where
                 higher = w.higher;
               }
 
-          out : (d b a : ℕ) → Outside setting env1 q live1 own (statements ss) (need_statements (scopes_of q) ss) (code_statements q place ss level) (λ label. have label env1 (statements ss)) K1 d b a → K.label d b a
+          out : (d b a : ℕ) → Outside setting own K1 d b a → K.label d b a
           out d b a o = ⊎_elim (λ x. x) (λ x. absurd (subst (λ t. elim t as (λ _. Type 0) [ true ↦ Unit {0} | false ↦ ⊥ ]) (sym (its d a x.1).0 ∙ o.1) tt)) o.0
 
           entered_runs : ScopeRuns setting k q place ss level → RefinesOutcome setting.text setting.size Finished K K.label m s (Behind setting.text setting.size beyond) m.regs.base m.regs.top (NothingShown setting K) (caught own (λ label s2. (within setting.size k).rest label own (statements ss) env1 live1 s2) (run_all setting.size (within setting.size k) (statements ss) env1 live1 (s1 left)))
@@ -95,7 +95,7 @@ module _ (setting : Setting) where
               let same_left : left ≡ (s1 left).left = n.left in
               leaves setting K K1 (inner_within setting.text setting.size K m (m1 left) s (s1 left) env1 q m.regs.top NewCell NewLabel m.regs.base level m.regs.base words (need_statements (scopes_of q) ss) room live1 under n) m (m1 left) s (s1 left) m.regs.top room (need_statements (scopes_of q) ss) line beyond moves_in (omega arith) (inr (omega arith, omega arith)) (n.words m.regs.top ∙ opened_old m.regs.words m.regs.top m.regs.base level m.regs.base room)
               (base_low setting K w0 need0 env p m s lives h level words (need_statements (scopes_of q) ss) line st go below header low stands need_is here) (omega (arith, header)) fit
-              (Outside setting env1 q live1 own (statements ss) (need_statements (scopes_of q) ss) (code_statements q place ss level) (λ label. have label env1 (statements ss)) K1)
+              (Outside setting own K1)
               (caught own (λ label s2. (within setting.size k).rest label own (statements ss) env1 live1 s2) (run_all setting.size (within setting.size k) (statements ss) env1 live1 (s1 left))) out
               (run env1 live1 own K1 words (m1 left) (s1 left) (behind_word st line) (λ s2. code.order op.Leave 0 0 line s2 (λ s3. code.needs (need_statements (scopes_of q) ss) s3 beyond)) (omega (arith, le, same_left))
               (opens setting.text setting.size K m (m1 left) s (s1 left) env1 q m.regs.top NewCell NewLabel m.regs.base level m.regs.base words (need_statements (scopes_of q) ss) room live1 under n) scope

@@ -89,7 +89,7 @@ module _ (env : Env) where
       let c : Entity Closure = ACell (value_kind v.type) (pos 0) in
       let is : entity_in env (Identifier v.name.number) ≡ n = ap entity_of m.0 in (
         put_other vs (suc n) (with_entity (entity_in env (Identifier v.name.number)) c s) m.1 n (inl (omega arith))
-        ∙ ap (λ t. if t then c else s.store n) (eq-eqb n (entity_in env (Identifier v.name.number)) (sym is)),
+            ∙ ap (λ t. if t then c else s.store n) (eq-eqb n (entity_in env (Identifier v.name.number)) (sym is)),
         put_cells vs (suc n) (with_entity (entity_in env (Identifier v.name.number)) c s) m.1,
       )
 

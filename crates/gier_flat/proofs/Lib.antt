@@ -14,9 +14,11 @@ mod StatementContinuations
 mod LeftParts
 mod Assignments
 mod GoTo
+mod NextRuns
 mod Statements
 mod RestFromLabel
 mod Scopes
+mod Deeper
 mod NewActivation
 mod BlockEntry
 mod StartAndStop

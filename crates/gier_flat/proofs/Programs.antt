@@ -37,7 +37,8 @@ use Rattle.gier_flat.proofs.Orders.{to}
 use Rattle.gier_flat.proofs.Assignments.{NothingShown}
 use Rattle.gier_flat.specs.Fair.{FairStatement}
 use Rattle.gier_flat.proofs.Setting.{Setting}
-use Rattle.gier_flat.proofs.Scopes.{IsScope, Outside, body_runs}
+use Rattle.gier_flat.proofs.NextRuns.{AreWithin, IsScope, Outside, NextRuns}
+use Rattle.gier_flat.proofs.Scopes.{body_runs}
 use Rattle.gier_flat.proofs.NewActivation.{StackBelow, NewActivation, Inner, inner_within, opens, opened_end}
 use Rattle.gier_flat.proofs.StartAndStop.{NothingKnown, ComesTo, starts, no_start, stops_so, behind_start}
 use Rattle.gier_flat.proofs.RunReport.{reports}
@@ -60,7 +61,7 @@ module _ (setting : Setting) where
     label_ends = λ e b a i. absurd i;
   }
 
-  module _ (input : List ℕ) (steps line : ℕ) (env : Env) (p : Places) (at : Where) (u : tree.Statement) (f : FairStatement p u) (own : List ℕ) (s0 : State Closure) (st : code.State) (beyond : Following) where
+  module _ (input : List ℕ) (steps line : ℕ) (env : Env) (p : Places) (at : Where) (u : tree.Statement) (f : FairStatement p at u) (below : AreWithin p at.level) (deeper : NextRuns setting steps (within setting.size steps)) (own : List ℕ) (s0 : State Closure) (st : code.State) (beyond : Following) where
     abbrev pub room : ℕ
     room = 3 + need_statement (scopes_of p) u
 
@@ -94,14 +95,14 @@ module _ (setting : Setting) where
         same_left : s1.left ≡ steps
         same_left = sym n.left
 
-        scope : IsScope setting env p lives own inside K1 m1
+        scope : IsScope setting own inside K1 m1
         scope = record {
           labels = λ e b a is l. ⊎_elim (λ x. absurd x) (λ x. (x.0, (its e a x.1).1)) l;
           end = inr (omega arith, omega arith);
           top = omega (arith, n.words 2 ∙ opened_end m0.regs.words 0 0 1 0 room);
         }
 
-        out : (e b a : ℕ) → Outside setting env p lives own (plain_tree.MoreStatements (statement u) plain_tree.NoStatements) (need_statement (scopes_of p) u) (code_statement p at u 1) inside K1 e b a → ⊥
+        out : (e b a : ℕ) → Outside setting own K1 e b a → ⊥
         out e b a o = ⊎_elim (λ x. absurd x) (λ x. absurd (subst (λ t. elim t as (λ _. Type 0) [ true ↦ Unit {0} | false ↦ ⊥ ]) (sym (its e a x.1).0 ∙ o.1) tt)) o.0
 
         moves_in : MovesTo setting.text setting.size NothingKnown m0 m1 s0 s1
@@ -120,9 +121,9 @@ module _ (setting : Setting) where
         runs =
             let r : Outcome Closure Finished = activated_body setting.size (within setting.size steps) (statement u) own env lives (with_most room s0) in
             stops_so setting NothingKnown m0 s0 m1.regs.base m1.regs.top line beyond r
-            (inner setting.text setting.size Finished NothingKnown K1 (λ e b a. ⊥) (Outside setting env p lives own (plain_tree.MoreStatements (statement u) plain_tree.NoStatements) (need_statement (scopes_of p) u) (code_statement p at u 1) inside K1) m0 m1 s0 s1 (Behind setting.text setting.size (λ s. order op.Stop 0 0 line s beyond)) m1.regs.base m1.regs.top (NothingShown setting K1) r
+            (inner setting.text setting.size Finished NothingKnown K1 (λ e b a. ⊥) (Outside setting own K1) m0 m1 s0 s1 (Behind setting.text setting.size (λ s. order op.Stop 0 0 line s beyond)) m1.regs.base m1.regs.top (NothingShown setting K1) r
             (inner_within setting.text setting.size NothingKnown m0 m1 s0 s1 env p 0 (λ e q. ⊥) NewLabel 0 1 0 3 (need_statement (scopes_of p) u) room lives (under_nothing m0 s0 0) n) moves_in out
-            (body_runs setting env p lives own at u f 1 steps K1 3 m1 s1 (behind_word st line) (λ s. order op.Stop 0 0 line s beyond) (omega (arith, same_left))
+            (body_runs setting env p lives (within setting.size steps) steps deeper at below own u f 1 K1 3 m1 s1 (behind_word st line) (λ s. order op.Stop 0 0 line s beyond) (omega (arith, same_left))
             (opens setting.text setting.size NothingKnown m0 m1 s0 s1 env p 0 (λ e q. ⊥) NewLabel 0 1 0 3 (need_statement (scopes_of p) u) room lives (under_nothing m0 s0 0) n) scope
             (behind_start setting 3 (need_statement (scopes_of p) u) line input steps st go (omega arith) low stands first need_is) (omega (arith, first))))
 

@@ -30,7 +30,8 @@ use Rattle.gier_flat.proofs.Composition.{follow_then, follow_on, onwards, wants}
 use Rattle.gier_flat.proofs.Orders.{labelled_next}
 use Rattle.gier_flat.proofs.Values.{Shown}
 use Rattle.gier_flat.proofs.Assignments.{NothingShown}
-use Rattle.gier_flat.proofs.Statements.{RunsStatement, labels_runs, statement_runs, statements_run}
+use Rattle.gier_flat.proofs.NextRuns.{RunsStatement, AreWithin, NextRuns}
+use Rattle.gier_flat.proofs.Statements.{labels_runs, statement_runs, statements_run}
 use Rattle.gier_flat.proofs.Continuations.{passes_expr}
 use Rattle.gier_flat.proofs.Orders.{placed}
 use Rattle.gier_flat.proofs.Expressions.{jump_reach}
@@ -44,7 +45,7 @@ use Rattle.gier_flat.proofs.Orders.{defined}
 use Rattle.gier_symbol.specs.declared.tag.Tag.TheVariants.{LabelPlace as LabelPlaceTag}
 use Rattle.gier_symbol.specs.ByTag.{sym as tagged}
 use Rattle.gier_tree.specs.Orders.{define, new, also, no_code, first_label}
-use Rattle.gier_tree.specs.Text7.{labels_code, if_code, if_else_code, code_statement, code_statements, code_unconditional, code_basic, code_conditional}
+use Rattle.gier_tree.specs.Text7.{labels_code, if_code, if_else_code, code_statement, code_statements, code_unconditional, code_basic, code_group, code_conditional}
 use Rattle.gier_tree.specs.Texts.{Where, behind_statement, further}
 use Rattle.gier_tree.specs.Entries.{numbers_unconditional}
 use Rattle.gier_tree.specs.OwnCount.{owns_in_unconditional}
@@ -188,47 +189,48 @@ module _ (setting : Setting) where
     no_label : (need : ℕ) (c : (w : ℕ) → code.State → Following → List Symbol) (v : State Closure → Outcome Closure Finished) → Resumes need c false v
     no_label need c v K w m s st go le h lab at within = absurd (subst (λ t. elim t as (λ _. Type 0) [ true ↦ ⊥ | false ↦ Unit {0} ]) within tt)
 
-    basic_run : (at : Where) (b : Basic) → FairBasic p b → (level : ℕ) → RunsStatement setting n env p lives (need_basic (scopes_of p) b) (code_basic p at b level) (λ st. run setting.size next (basic b) env lives st)
-    basic_run at b f level = statement_runs setting n env p lives next at (OneUnconditional (MkUnconditional [] b)) (tt, f) level
+    module _ (deeper : NextRuns setting n next) where
+      basic_run : (at : Where) → AreWithin p at.level → (b : Basic) → FairBasic p at b → (level : ℕ) → RunsStatement setting n env p lives (need_basic (scopes_of p) b) (code_basic p at b level) (λ st. run setting.size next (basic b) env lives st)
+      basic_run at below b f level = statement_runs setting n env p lives next deeper at below (OneUnconditional (MkUnconditional [] b)) (tt, f) level
 
-    mutual
-      pub resume_statement : (at : Where) (s : Statement) → FairStatement p s → (level : ℕ) → Resumes (need_statement (scopes_of p) s) (code_statement p at s level) (has label env (statement s)) (λ st. resume setting.size next label (statement s) env lives st)
-      resume_statement at (OneUnconditional u) f level = resume_unconditional at u f level
-      resume_statement at (OneConditional c) f level = resume_conditional at c f level
-      resume_statement at (OneLoop x) f level = absurd f
+      mutual
+        pub resume_statement : (at : Where) → AreWithin p at.level → (s : Statement) → FairStatement p at s → (level : ℕ) → Resumes (need_statement (scopes_of p) s) (code_statement p at s level) (has label env (statement s)) (λ st. resume setting.size next label (statement s) env lives st)
+        resume_statement at below (OneUnconditional u) f level = resume_unconditional at below u f level
+        resume_statement at below (OneConditional c) f level = resume_conditional at below c f level
+        resume_statement at below (OneLoop x) f level = absurd f
 
-      pub resume_statements : (at : Where) (ss : Statements) → FairStatements p ss → (level : ℕ) → Resumes (need_statements (scopes_of p) ss) (code_statements p at ss level) (have label env (statements ss)) (λ st. resume_all setting.size next label (statements ss) env lives st)
-      resume_statements at NoStatements f level = no_label 0 (code_statements p at NoStatements level) (λ st. Gives Done st)
-      resume_statements at (MoreStatements l s ss) f level =
-          resume_seq (code_statement p at s) (code_statements p (behind_statement at s) ss) level (need_statement (scopes_of p) s) (need_statements (scopes_of p) ss) (has label env (statement s)) (have label env (statements ss))
-          (λ st. Gives Done st) (λ st. resume setting.size next label (statement s) env lives st) (λ st. resume_all setting.size next label (statements ss) env lives st) (λ st. run_all setting.size next (statements ss) env lives st)
-          (passes_statement setting.text setting.size setting.ends p at s f.0 level) (resume_statement at s f.0 level) (statements_run setting n env p lives next (behind_statement at s) ss f.1 level) (resume_statements (behind_statement at s) ss f.1 level)
+        pub resume_statements : (at : Where) → AreWithin p at.level → (ss : Statements) → FairStatements p at ss → (level : ℕ) → Resumes (need_statements (scopes_of p) ss) (code_statements p at ss level) (have label env (statements ss)) (λ st. resume_all setting.size next label (statements ss) env lives st)
+        resume_statements at below NoStatements f level = no_label 0 (code_statements p at NoStatements level) (λ st. Gives Done st)
+        resume_statements at below (MoreStatements l s ss) f level =
+            resume_seq (code_statement p at s) (code_statements p (behind_statement at s) ss) level (need_statement (scopes_of p) s) (need_statements (scopes_of p) ss) (has label env (statement s)) (have label env (statements ss))
+            (λ st. Gives Done st) (λ st. resume setting.size next label (statement s) env lives st) (λ st. resume_all setting.size next label (statements ss) env lives st) (λ st. run_all setting.size next (statements ss) env lives st)
+            (passes_statement setting.text setting.size setting.ends p at s f.0 level) (resume_statement at below s f.0 level) (statements_run setting n env p lives next deeper (behind_statement at s) below ss f.1 level) (resume_statements (behind_statement at s) below ss f.1 level)
 
-      resume_unconditional : (at : Where) (u : Unconditional) → FairUnconditional p u → (level : ℕ) → Resumes (need_unconditional (scopes_of p) u) (code_unconditional p at u level) (has label env (unconditional u)) (λ st. resume setting.size next label (unconditional u) env lives st)
-      resume_unconditional at (MkUnconditional ls b) f level = resume_labels ls f.0 (code_basic p at b) level (need_basic (scopes_of p) b) (basic b) (basic_run at b f.1 level) (resume_basic at b f.1 level)
+        resume_unconditional : (at : Where) → AreWithin p at.level → (u : Unconditional) → FairUnconditional p at u → (level : ℕ) → Resumes (need_unconditional (scopes_of p) u) (code_unconditional p at u level) (has label env (unconditional u)) (λ st. resume setting.size next label (unconditional u) env lives st)
+        resume_unconditional at below (MkUnconditional ls b) f level = resume_labels ls f.0 (code_basic p at b) level (need_basic (scopes_of p) b) (basic b) (basic_run at below b f.1 level) (resume_basic at below b f.1 level)
 
-      resume_basic : (at : Where) (b : Basic) → FairBasic p b → (level : ℕ) → Resumes (need_basic (scopes_of p) b) (code_basic p at b level) (has label env (basic b)) (λ st. resume setting.size next label (basic b) env lives st)
-      resume_basic at (OneGroup (MkBlock l d m ds s ss k)) f level = absurd f
-      resume_basic at (OneGroup (MkCompound l s ss k)) f level =
-          resume_seq (code_statement p at s) (code_statements p (behind_statement at s) ss) level (need_statement (scopes_of p) s) (need_statements (scopes_of p) ss) (has label env (statement s)) (have label env (statements ss))
-          (λ st. Gives Done st) (λ st. resume setting.size next label (statement s) env lives st) (λ st. resume_all setting.size next label (statements ss) env lives st) (λ st. run_all setting.size next (statements ss) env lives st)
-          (passes_statement setting.text setting.size setting.ends p at s f.0 level) (resume_statement at s f.0 level) (statements_run setting n env p lives next (behind_statement at s) ss f.1 level) (resume_statements (behind_statement at s) ss f.1 level)
-      resume_basic at (Assign q qs e) f level = no_label (need_basic (scopes_of p) (Assign q qs e)) (code_basic p at (Assign q qs e) level) (λ st. Gives Done st)
-      resume_basic at (Jump l e) f level = no_label (need_basic (scopes_of p) (Jump l e)) (code_basic p at (Jump l e) level) (λ st. Gives Done st)
-      resume_basic at (CallStatement c) f level = no_label (need_basic (scopes_of p) (CallStatement c)) (code_basic p at (CallStatement c) level) (λ st. Gives Done st)
-      resume_basic at Dummy f level = no_label 0 (code_basic p at Dummy level) (λ st. Gives Done st)
+        resume_basic : (at : Where) → AreWithin p at.level → (b : Basic) → FairBasic p at b → (level : ℕ) → Resumes (need_basic (scopes_of p) b) (code_basic p at b level) (has label env (basic b)) (λ st. resume setting.size next label (basic b) env lives st)
+        resume_basic at below (OneGroup (MkBlock l d m ds s ss k)) f level = no_label 0 (code_group p at (MkBlock l d m ds s ss k) level) (λ st. Gives Done st)
+        resume_basic at below (OneGroup (MkCompound l s ss k)) f level =
+            resume_seq (code_statement p at s) (code_statements p (behind_statement at s) ss) level (need_statement (scopes_of p) s) (need_statements (scopes_of p) ss) (has label env (statement s)) (have label env (statements ss))
+            (λ st. Gives Done st) (λ st. resume setting.size next label (statement s) env lives st) (λ st. resume_all setting.size next label (statements ss) env lives st) (λ st. run_all setting.size next (statements ss) env lives st)
+            (passes_statement setting.text setting.size setting.ends p at s f.0 level) (resume_statement at below s f.0 level) (statements_run setting n env p lives next deeper (behind_statement at s) below ss f.1 level) (resume_statements (behind_statement at s) below ss f.1 level)
+        resume_basic at below (Assign q qs e) f level = no_label (need_basic (scopes_of p) (Assign q qs e)) (code_basic p at (Assign q qs e) level) (λ st. Gives Done st)
+        resume_basic at below (Jump l e) f level = no_label (need_basic (scopes_of p) (Jump l e)) (code_basic p at (Jump l e) level) (λ st. Gives Done st)
+        resume_basic at below (CallStatement c) f level = no_label (need_basic (scopes_of p) (CallStatement c)) (code_basic p at (CallStatement c) level) (λ st. Gives Done st)
+        resume_basic at below Dummy f level = no_label 0 (code_basic p at Dummy level) (λ st. Gives Done st)
 
-      resume_conditional : (at : Where) (c : Conditional) → FairConditional p c → (level : ℕ) → Resumes (need_conditional (scopes_of p) c) (code_conditional p at c level) (has label env (conditional c)) (λ st. resume setting.size next label (conditional c) env lives st)
-      resume_conditional at (IfThen ls l e m u) f level =
-          let whole : Conditional = IfThen [] l e m u in
-          resume_labels ls f.0 (if_code l (code_expr p e) (code_unconditional p at u)) level (need_conditional (scopes_of p) whole) (plain_tree.If (expr e) (unconditional u))
-          (statement_runs setting n env p lives next at (OneConditional whole) (tt, f.1, f.2) level)
-          (resume_if l level (need_expr (scopes_of p) e) (need_unconditional (scopes_of p) u) (code_expr p e) (code_unconditional p at u) (has label env (unconditional u)) (λ st. resume setting.size next label (unconditional u) env lives st) (passes_expr setting.text setting.size setting.ends p e f.1 level) (resume_unconditional at u f.2 level))
-      resume_conditional at (IfElse ls l e m u k s) f level =
-          let at1 : Where = further at (numbers_unconditional u) (owns_in_unconditional u) in
-          let whole : Conditional = IfElse [] l e m u k s in
-          resume_labels ls f.0 (if_else_code l (code_expr p e) (code_unconditional p at u) (code_statement p at1 s)) level (need_conditional (scopes_of p) whole) (plain_tree.IfElse (expr e) (unconditional u) (statement s))
-          (statement_runs setting n env p lives next at (OneConditional whole) (tt, f.1, f.2, f.3) level)
-          (resume_choice l level (need_expr (scopes_of p) e) (need_unconditional (scopes_of p) u) (need_statement (scopes_of p) s) (code_expr p e) (code_unconditional p at u) (code_statement p at1 s) (has label env (unconditional u)) (has label env (statement s)) (λ st. resume setting.size next label (unconditional u) env lives st) (λ st. resume setting.size next label (statement s) env lives st)
-          (passes_expr setting.text setting.size setting.ends p e f.1 level) (passes_unconditional setting.text setting.size setting.ends p at u f.2 level) (passes_statement setting.text setting.size setting.ends p at1 s f.3 level) (resume_unconditional at u f.2 level) (resume_statement at1 s f.3 level))
-      resume_conditional at (IfLoop ls l e m x) f level = absurd f
+        resume_conditional : (at : Where) → AreWithin p at.level → (c : Conditional) → FairConditional p at c → (level : ℕ) → Resumes (need_conditional (scopes_of p) c) (code_conditional p at c level) (has label env (conditional c)) (λ st. resume setting.size next label (conditional c) env lives st)
+        resume_conditional at below (IfThen ls l e m u) f level =
+            let whole : Conditional = IfThen [] l e m u in
+            resume_labels ls f.0 (if_code l (code_expr p e) (code_unconditional p at u)) level (need_conditional (scopes_of p) whole) (plain_tree.If (expr e) (unconditional u))
+            (statement_runs setting n env p lives next deeper at below (OneConditional whole) (tt, f.1, f.2) level)
+            (resume_if l level (need_expr (scopes_of p) e) (need_unconditional (scopes_of p) u) (code_expr p e) (code_unconditional p at u) (has label env (unconditional u)) (λ st. resume setting.size next label (unconditional u) env lives st) (passes_expr setting.text setting.size setting.ends p e f.1 level) (resume_unconditional at below u f.2 level))
+        resume_conditional at below (IfElse ls l e m u k s) f level =
+            let at1 : Where = further at (numbers_unconditional u) (owns_in_unconditional u) in
+            let whole : Conditional = IfElse [] l e m u k s in
+            resume_labels ls f.0 (if_else_code l (code_expr p e) (code_unconditional p at u) (code_statement p at1 s)) level (need_conditional (scopes_of p) whole) (plain_tree.IfElse (expr e) (unconditional u) (statement s))
+            (statement_runs setting n env p lives next deeper at below (OneConditional whole) (tt, f.1, f.2, f.3) level)
+            (resume_choice l level (need_expr (scopes_of p) e) (need_unconditional (scopes_of p) u) (need_statement (scopes_of p) s) (code_expr p e) (code_unconditional p at u) (code_statement p at1 s) (has label env (unconditional u)) (has label env (statement s)) (λ st. resume setting.size next label (unconditional u) env lives st) (λ st. resume setting.size next label (statement s) env lives st)
+            (passes_expr setting.text setting.size setting.ends p e f.1 level) (passes_unconditional setting.text setting.size setting.ends p at u f.2 level) (passes_statement setting.text setting.size setting.ends p at1 s f.3 level) (resume_unconditional at below u f.2 level) (resume_statement at1 below s f.3 level))
+        resume_conditional at below (IfLoop ls l e m x) f level = absurd f

@@ -1,21 +1,27 @@
 -- Behind the code of statements stands what follows it.
-use Rattle.std.proofs.Common.{◌≡◌, ℕ, zero, suc, ◌+◌, List, [], ◌∷◌, length, sym, subst, arith}
+use Rattle.std.proofs.Common.{◌≡◌, ℕ, zero, suc, ◌+◌, ◌*◌, List, [], ◌∷◌, length, sym, subst, arith}
+use Rattle.std.specs.Prelude.{◌^◌}
 use Rattle.gier_symbol.specs.declared.symbol.Symbol.{Symbol}
+use Rattle.gier_symbol.specs.declared.tag.Tag.TheVariants.{OpenRoom, Need as NeedTag}
+use Rattle.gier_symbol.specs.ByTag.{sym as tagged}
 use Rattle.gier_order.specs.declared.operation.Operation.TheVariants as op
 use Rattle.gier_tree.specs.declared.kind.Kind.{Kind}
 use Rattle.gier_tree.specs.declared.kind.Kind.TheVariants.{IntegerVariable, BooleanVariable, IntegerValue, BooleanValue, Label, OutInteger, OutCr}
-use Rattle.gier_tree.specs.Orders.{State, Following, Code, order, with_label, define, new, also, first_label}
-use Rattle.gier_tree.specs.Coded.{label_code, code_expr, code_label, code_simple_label, code_primary_label, code_call, call_code, alone_code, part_of, address_of}
-use Rattle.gier_tree.specs.Text7.{labels_code, left_code, lefts_code, puts, if_code, if_else_code, code_statement, code_statements, code_unconditional, code_basic, code_group, code_conditional}
-use Rattle.gier_tree.specs.Texts.{Where, behind_statement, further}
-use Rattle.gier_tree.specs.Entries.{numbers_unconditional}
+use Rattle.gier_tree.specs.Orders.{State, Following, Code, order, with_label, define, new, also, first_label, needs, number_of, behind_word}
+use Rattle.gier_tree.specs.Need.{need_block}
+use Rattle.gier_tree.specs.Room.{block_words}
+use Rattle.gier_tree.specs.Coded.{scopes_of, label_code, code_expr, code_label, code_simple_label, code_primary_label, code_call, call_code, alone_code, part_of, address_of}
+use Rattle.gier_tree.specs.Text7.{labels_code, left_code, lefts_code, puts, if_code, if_else_code, code_statement, code_statements, code_unconditional, code_basic, code_group, code_conditional, code_declaration, code_declarations, block_code}
+use Rattle.gier_tree.specs.Texts.{Where, behind_statement, behind_declaration, behind_declarations, inner, further}
+use Rattle.gier_tree.specs.Entries.{block_entries, numbers_unconditional}
 use Rattle.gier_tree.specs.OwnCount.{owns_in_unconditional}
 use Rattle.gier_tree.specs.Lines.{first_left}
-use Rattle.gier_tree.specs.Places.{Places}
-use Rattle.gier_tree.specs.Trees.{Expr, OneSimple, IfExpr, Simple, OneImplication, OneDisjunction, OneConjunction, OneNegation, OneRelation, OneArithmetic, OneTerm, OneFactor, Primary, OnePrimary, Bracketed, OneCall, Call, Alone, WithActuals, OneExpr, NoActuals, LeftSide, OneName, LeftElement, LeftPart, LabelPlace, Group, MkBlock, MkCompound, Statements, NoStatements, MoreStatements, Statement, OneUnconditional, OneConditional, OneLoop, Unconditional, MkUnconditional, Basic, OneGroup, Assign, Jump, CallStatement, Dummy, Conditional, IfThen, IfElse, IfLoop}
+use Rattle.gier_tree.specs.Places.{Places, block_places}
+use Rattle.gier_tree.specs.Trees.{Expr, OneSimple, IfExpr, Simple, OneImplication, OneDisjunction, OneConjunction, OneNegation, OneRelation, OneArithmetic, OneTerm, OneFactor, Primary, OnePrimary, Bracketed, OneCall, Call, Alone, WithActuals, OneExpr, NoActuals, LeftSide, OneName, LeftElement, LeftPart, LabelPlace, Declaration, Declarations, Group, MkBlock, MkCompound, Statements, NoStatements, MoreStatements, Statement, OneUnconditional, OneConditional, OneLoop, Unconditional, MkUnconditional, Basic, OneGroup, Assign, Jump, CallStatement, Dummy, Conditional, IfThen, IfElse, IfLoop}
 use Rattle.gier_tree.specs.Words.{HasStop}
+use Rattle.gier_flat.proofs.Positions.{At, behind}
 use Rattle.gier_flat.proofs.Orders.{defined}
-use Rattle.gier_flat.specs.Fair.{IsCell, FairTarget, FairTargetSimple, FairTargetPrimary, FairLeft, FairLefts, FairCalled, FairStatement, FairStatements, FairUnconditional, FairBasic, FairGroup, FairConditional}
+use Rattle.gier_flat.specs.Fair.{IsCell, FairTarget, FairTargetSimple, FairTargetPrimary, FairLeft, FairLefts, FairCalled, FairHead, FairStatement, FairStatements, FairUnconditional, FairBasic, FairGroup, FairConditional}
 use Rattle.gier_flat.proofs.Continuations.{Passes, passes_then, passes_order, passes_labelled, passes_order_behind, passes_choice, passes_expr}
 
 module _ (text : List Symbol) (size : ℕ) (ends : HasStop text) where
@@ -90,33 +96,60 @@ module _ (text : List Symbol) (size : ℕ) (ends : HasStop text) where
         one kind count formals l a line level w k = subst (λ k. Passes text size ends (call_code (record { what = record { kind = k; count = count; formals = formals }; level = l; address = a }) line (part_of p (OneExpr e) ∷ []) level w)) (sym k) (passes_then text size ends (code_expr p e level w) (order op.Lib 0 1 line) (passes_expr text size ends p e f.1 level w) (passes_order text size ends op.Lib 0 1 line (λ e. absurd (omega (arith, e)))))
     passes_called (WithActuals x l a more m) f = absurd f
 
-    mutual
-      pub passes_statement : (at : Where) (s : Statement) → FairStatement p s → (level w : ℕ) → Passes text size ends (code_statement p at s level w)
-      passes_statement at (OneUnconditional u) f = passes_unconditional at u f
-      passes_statement at (OneConditional c) f = passes_conditional at c f
-      passes_statement at (OneLoop x) f = absurd f
+  -- ---- blocks
 
-      pub passes_statements : (at : Where) (s : Statements) → FairStatements p s → (level w : ℕ) → Passes text size ends (code_statements p at s level w)
-      passes_statements at NoStatements f = λ level w. passes_nothing
-      passes_statements at (MoreStatements l s ss) f = passes_also (code_statement p at s) (code_statements p (behind_statement at s) ss) (passes_statement at s f.0) (passes_statements (behind_statement at s) ss f.1)
+  -- the word that opens a room, what is within, and the order that leaves it
+  passes_block : (inside need line words : ℕ) (c : Code) → ((level w : ℕ) → Passes text size ends (c level w)) → (level w : ℕ) → Passes text size ends (λ st go. block_code inside need line words c st go)
+  passes_block inside need line words c pc level w st go at =
+      let leaving : Following = λ s1. order op.Leave 0 0 line s1 (λ s2. needs need s2 go) in
+      let s1 : State = behind_word st line in
+      let at_c : At text s1 (c inside words s1 leaving) = behind text st s1 (tagged OpenRoom (number_of op.Block * 2 ^ 32 + inside * 2 ^ 24 + words) line) (c inside words s1 leaving) at (λ e. absurd (omega (arith, e))) (omega arith) in
+      let rc = pc inside words s1 leaving at_c in
+      let behind_leave : Following = λ s2. needs need s2 go in
+      let ro = passes_order text size ends op.Leave 0 0 line (λ e. absurd (omega (arith, e))) rc.0 behind_leave rc.1 in
+      (ro.0, behind text ro.0 ro.0 (tagged NeedTag need ro.0.line) (go ro.0) ro.1 (λ e. absurd (omega (arith, e))) (omega arith), omega (arith, rc.2, ro.2))
 
-      pub passes_unconditional : (at : Where) (u : Unconditional) → FairUnconditional p u → (level w : ℕ) → Passes text size ends (code_unconditional p at u level w)
-      passes_unconditional at (MkUnconditional ls b) f = passes_also (labels_code p ls) (code_basic p at b) (passes_labels p ls) (passes_basic at b f.1)
+  passes_head : (p : Places) (at : Where) (d : Declaration) (ds : Declarations) (s : Statement) (ss : Statements) → FairHead p at d ds s ss → (body : Code) → ((level w : ℕ) → Passes text size ends (body level w)) → (level w : ℕ)
+      → Passes text size ends (also (code_declaration (block_places (suc at.level) at.numbers d ds s ss p) (inner at (block_entries d ds s ss)) d) (also (code_declarations (block_places (suc at.level) at.numbers d ds s ss p) (behind_declaration (inner at (block_entries d ds s ss)) d) ds) body) level w)
+  passes_head p at d ds s ss f body pb level w = absurd f
 
-      passes_basic : (at : Where) (b : Basic) → FairBasic p b → (level w : ℕ) → Passes text size ends (code_basic p at b level w)
-      passes_basic at (OneGroup g) f = passes_group at g f
-      passes_basic at (Assign q qs e) f = λ level w. passes_then text size ends (lefts_code p (first_left q.left) (q ∷ qs) (code_expr p e) level w) (puts (suc (length qs)) w (first_left q.left)) (passes_lefts (first_left q.left) (q ∷ qs) (f.0, f.1) (code_expr p e) (passes_expr text size ends p e f.2) level w) (passes_puts (suc (length qs)) w (first_left q.left))
-      passes_basic at (Jump l e) f = passes_order_behind text size ends op.Go (λ e. absurd (omega (arith, e))) l (code_label p e) (passes_target e f)
-      passes_basic at (CallStatement c) f = passes_called c f
-      passes_basic at Dummy f = λ level w. passes_nothing
+  -- ---- statements
 
-      passes_group : (at : Where) (g : Group) → FairGroup p g → (level w : ℕ) → Passes text size ends (code_group p at g level w)
-      passes_group at (MkBlock l d m ds s ss n) f = absurd f
-      passes_group at (MkCompound l s ss n) f = passes_also (code_statement p at s) (code_statements p (behind_statement at s) ss) (passes_statement at s f.0) (passes_statements (behind_statement at s) ss f.1)
+  mutual
+    pub passes_statement : (p : Places) (at : Where) (s : Statement) → FairStatement p at s → (level w : ℕ) → Passes text size ends (code_statement p at s level w)
+    passes_statement p at (OneUnconditional u) f = passes_unconditional p at u f
+    passes_statement p at (OneConditional c) f = passes_conditional p at c f
+    passes_statement p at (OneLoop x) f = absurd f
 
-      passes_conditional : (at : Where) (c : Conditional) → FairConditional p c → (level w : ℕ) → Passes text size ends (code_conditional p at c level w)
-      passes_conditional at (IfThen ls l e m u) f = passes_also (labels_code p ls) (if_code l (code_expr p e) (code_unconditional p at u)) (passes_labels p ls) (passes_if l (code_expr p e) (code_unconditional p at u) (passes_expr text size ends p e f.1) (passes_unconditional at u f.2))
-      passes_conditional at (IfElse ls l e m u n s) f =
-          let at1 : Where = further at (numbers_unconditional u) (owns_in_unconditional u) in
-          passes_also (labels_code p ls) (if_else_code l (code_expr p e) (code_unconditional p at u) (code_statement p at1 s)) (passes_labels p ls) (passes_choice text size ends l (code_expr p e) (code_unconditional p at u) (code_statement p at1 s) (passes_expr text size ends p e f.1) (passes_unconditional at u f.2) (passes_statement at1 s f.3))
-      passes_conditional at (IfLoop ls l e m x) f = absurd f
+    pub passes_statements : (p : Places) (at : Where) (s : Statements) → FairStatements p at s → (level w : ℕ) → Passes text size ends (code_statements p at s level w)
+    passes_statements p at NoStatements f = λ level w. passes_nothing
+    passes_statements p at (MoreStatements l s ss) f = passes_also (code_statement p at s) (code_statements p (behind_statement at s) ss) (passes_statement p at s f.0) (passes_statements p (behind_statement at s) ss f.1)
+
+    pub passes_unconditional : (p : Places) (at : Where) (u : Unconditional) → FairUnconditional p at u → (level w : ℕ) → Passes text size ends (code_unconditional p at u level w)
+    passes_unconditional p at (MkUnconditional ls b) f = passes_also (labels_code p ls) (code_basic p at b) (passes_labels p ls) (passes_basic p at b f.1)
+
+    passes_basic : (p : Places) (at : Where) (b : Basic) → FairBasic p at b → (level w : ℕ) → Passes text size ends (code_basic p at b level w)
+    passes_basic p at (OneGroup g) f = passes_group p at g f
+    passes_basic p at (Assign q qs e) f = λ level w. passes_then text size ends (lefts_code p (first_left q.left) (q ∷ qs) (code_expr p e) level w) (puts (suc (length qs)) w (first_left q.left)) (passes_lefts p (first_left q.left) (q ∷ qs) (f.0, f.1) (code_expr p e) (passes_expr text size ends p e f.2) level w) (passes_puts (suc (length qs)) w (first_left q.left))
+    passes_basic p at (Jump l e) f = passes_order_behind text size ends op.Go (λ e. absurd (omega (arith, e))) l (code_label p e) (passes_target p e f)
+    passes_basic p at (CallStatement c) f = passes_called p c f
+    passes_basic p at Dummy f = λ level w. passes_nothing
+
+    passes_group : (p : Places) (at : Where) (g : Group) → FairGroup p at g → (level w : ℕ) → Passes text size ends (code_group p at g level w)
+    passes_group p at (MkBlock l d m ds s ss n) f =
+        let q : Places = block_places (suc at.level) at.numbers d ds s ss p in
+        let w1 : Where = inner at (block_entries d ds s ss) in
+        let w2 : Where = behind_declaration w1 d in
+        let w3 : Where = behind_declarations w2 ds in
+        let body : Code = also (code_statement q w3 s) (code_statements q (behind_statement w3 s) ss) in
+        passes_block (suc at.level) (need_block (scopes_of q) d ds s ss) l (block_words d ds)
+        (also (code_declaration q w1 d) (also (code_declarations q w2 ds) body))
+        (passes_head p at d ds s ss f.0 body (passes_also (code_statement q w3 s) (code_statements q (behind_statement w3 s) ss) (passes_statement q w3 s f.1) (passes_statements q (behind_statement w3 s) ss f.2)))
+    passes_group p at (MkCompound l s ss n) f = passes_also (code_statement p at s) (code_statements p (behind_statement at s) ss) (passes_statement p at s f.0) (passes_statements p (behind_statement at s) ss f.1)
+
+    passes_conditional : (p : Places) (at : Where) (c : Conditional) → FairConditional p at c → (level w : ℕ) → Passes text size ends (code_conditional p at c level w)
+    passes_conditional p at (IfThen ls l e m u) f = passes_also (labels_code p ls) (if_code l (code_expr p e) (code_unconditional p at u)) (passes_labels p ls) (passes_if l (code_expr p e) (code_unconditional p at u) (passes_expr text size ends p e f.1) (passes_unconditional p at u f.2))
+    passes_conditional p at (IfElse ls l e m u n s) f =
+        let at1 : Where = further at (numbers_unconditional u) (owns_in_unconditional u) in
+        passes_also (labels_code p ls) (if_else_code l (code_expr p e) (code_unconditional p at u) (code_statement p at1 s)) (passes_labels p ls) (passes_choice text size ends l (code_expr p e) (code_unconditional p at u) (code_statement p at1 s) (passes_expr text size ends p e f.1) (passes_unconditional p at u f.2) (passes_statement p at1 s f.3))
+    passes_conditional p at (IfLoop ls l e m x) f = absurd f

@@ -65,6 +65,7 @@ use Rattle.gier_meaning.specs.Plain.{call}
 use Rattle.gier_meaning.specs.Operators as meaning
 use Rattle.gier_meaning.specs.Outcome.{either}
 use Rattle.gier_flat.proofs.Setting.{Setting}
+use Rattle.gier_flat.proofs.NextRuns.{RunsStatement, AreWithin, NextRuns}
 
 abbrev IsNotOutInteger : Kind → Type 0
 IsNotOutInteger OutInteger = ⊥
@@ -76,9 +77,6 @@ IsNotOutCr kind = ⊤
 
 module _ (setting : Setting) where
   module _ (n : ℕ) (env : Env) (p : Places) (lives : Live) where
-    abbrev pub RunsStatement : (need : ℕ) → (c : (w : ℕ) → code.State → Following → List Symbol) → (State Closure → Outcome Closure Finished) → Type 1
-    RunsStatement need c v = Runs setting.text setting.size setting.ends setting.small n env p lives Finished (NothingShown setting) need c v
-
     -- ---- printing
 
     -- a standard procedure that prints these bytes
@@ -127,7 +125,7 @@ module _ (setting : Setting) where
       printed_number e line (Stops why stop s1) = refl
 
       out_integer : (kind : Kind) (count : ℕ) (formals : List Kind) (l a : ℕ) (d : Option Denoted) (e : Expr) (line level : ℕ) → kind ≡ OutInteger → FairExpr p e → ((K : Known) (w need : ℕ) (m : Machine) (s : State Closure) → RunInvariant setting.text setting.size K w need env p m s lives → (b : ℕ) → K.frame env p b → Shows setting.text K m.regs.words s.store b kind (record { what = record { kind = kind; count = count; formals = formals }; level = l; address = a }) d)
-          → RunsStatement (need_expr (scopes_of p) e) (call_code (record { what = record { kind = kind; count = count; formals = formals }; level = l; address = a }) line (part_of p (OneExpr e) ∷ []) level)
+          → RunsStatement setting n env p lives (need_expr (scopes_of p) e) (call_code (record { what = record { kind = kind; count = count; formals = formals }; level = l; address = a }) line (part_of p (OneExpr e) ∷ []) level)
           (λ s. then_do (call_of setting.size next d (plain_tree.MoreExprs (expr e) plain_tree.NoExprs) env (λ kinds s1. handed setting.size next kinds (plain_tree.MoreExprs (expr e) plain_tree.NoExprs) env line lives s1) line lives s) (λ v s1. Gives Done s1))
       out_integer OutInteger count formals l a d e line level is f shows K w m s st go le h at here =
           let need : ℕ = need_expr (scopes_of p) e in
@@ -145,7 +143,7 @@ module _ (setting : Setting) where
 
       -- ---- statements
 
-      pub labels_runs : (ls : List LabelPlace) (c : Code) (level need : ℕ) (v : State Closure → Outcome Closure Finished) → RunsStatement need (c level) v → RunsStatement need (also (labels_code p ls) c level) v
+      pub labels_runs : (ls : List LabelPlace) (c : Code) (level need : ℕ) (v : State Closure → Outcome Closure Finished) → RunsStatement setting n env p lives need (c level) v → RunsStatement setting n env p lives need (also (labels_code p ls) c level) v
       labels_runs [] c level need v r = r
       labels_runs (l ∷ ls) c level need v r = λ K w m s st go le h at here. labels_runs ls c level need v r K w m s st go le h (defined setting.text setting.size setting.ends (p l.name.number).address st (λ s1. labels_code p ls level w s1 (λ s2. c level w s2 go)) at) here
 
@@ -153,12 +151,12 @@ module _ (setting : Setting) where
       run_labels [] s st = refl
       run_labels (l ∷ ls) s st = run_labels ls s st
 
-      pub behind_labels : (ls : List LabelPlace) (c : Code) (level need : ℕ) (s : plain_tree.Statement) → RunsStatement need (c level) (λ st. run setting.size next s env lives st) → RunsStatement need (also (labels_code p ls) c level) (λ st. run setting.size next (with_labels ls s) env lives st)
+      pub behind_labels : (ls : List LabelPlace) (c : Code) (level need : ℕ) (s : plain_tree.Statement) → RunsStatement setting n env p lives need (c level) (λ st. run setting.size next s env lives st) → RunsStatement setting n env p lives need (also (labels_code p ls) c level) (λ st. run setting.size next (with_labels ls s) env lives st)
       behind_labels ls c level need s r K w m st cs go le h at here =
           subst (λ u. RefinesOutcome setting.text setting.size Finished K K.label m st (Behind setting.text setting.size go) m.regs.base m.regs.top (NothingShown setting K) u) (sym (run_labels ls s st))
           (labels_runs ls c level need (λ st. run setting.size next s env lives st) r K w m st cs go le h at here)
 
-      pub seq_runs : (a b : Code) (level na nb : ℕ) (va vb : State Closure → Outcome Closure Finished) → RunsStatement na (a level) va → RunsStatement nb (b level) vb → RunsStatement (max na nb) (also a b level) (λ s. then_do (va s) (λ d s1. vb s1))
+      pub seq_runs : (a b : Code) (level na nb : ℕ) (va vb : State Closure → Outcome Closure Finished) → RunsStatement setting n env p lives na (a level) va → RunsStatement setting n env p lives nb (b level) vb → RunsStatement setting n env p lives (max na nb) (also a b level) (λ s. then_do (va s) (λ d s1. vb s1))
       seq_runs a b level na nb va vb ra rb K w m s st go le h at here =
           let behind_a : Following = λ s1. b level w s1 go in
           follow_then setting.text setting.size Finished Finished K K.label m s (Behind setting.text setting.size behind_a) m.regs.base m.regs.top (NothingShown setting K) (va s) (Behind setting.text setting.size go) m.regs.base m.regs.top (NothingShown setting K) (λ d s1. vb s1)
@@ -169,12 +167,12 @@ module _ (setting : Setting) where
           onwards setting.text setting.size Finished K K.label m m1 s s1 (Behind setting.text setting.size go) m.regs.base m.regs.top (NothingShown setting K) (vb s1) reach af
           (rb K w m1 s1 goal.0 go (omega (arith, fewer, le)) h1 goal.1 goal.2))
 
-      nothing_runs : RunsStatement 0 (λ w st go. go st) (λ s. Gives Done s)
+      nothing_runs : RunsStatement setting n env p lives 0 (λ w st go. go st) (λ s. Gives Done s)
       nothing_runs K w m s st go le h at here =
           (m, (λ k. (k, refl)), (st, at, here), tt, record { on_base = refl; at_top = refl; started = h.started; keeps = λ i k. refl; marks = λ i k. refl; holds = h.holds; sorts = λ k lt. refl; left = h.left; most = h.most; printed = h.printed; input = h.input; fresh = omega arith; fewer = omega arith; deeper = omega arith; higher = omega arith })
 
       -- a conditional statement with one branch
-      if_runs : (line level na nb : ℕ) (a b : Code) (va : State Closure → Outcome Closure ℤ) (vb : State Closure → Outcome Closure Finished) → ((w : ℕ) → Passes setting.text setting.size setting.ends (b level w)) → Runs setting.text setting.size setting.ends setting.small n env p lives ℤ (Same setting.text setting.size setting.ends setting.small) na (a level) va → RunsStatement nb (b level) vb → RunsStatement (max na nb) (if_code line a b level) (λ s. then_do (va s) (λ x s1. either (meaning.is_true x) s1 (λ s2. vb s2) (λ s2. Gives Done s2)))
+      if_runs : (line level na nb : ℕ) (a b : Code) (va : State Closure → Outcome Closure ℤ) (vb : State Closure → Outcome Closure Finished) → ((w : ℕ) → Passes setting.text setting.size setting.ends (b level w)) → Runs setting.text setting.size setting.ends setting.small n env p lives ℤ (Same setting.text setting.size setting.ends setting.small) na (a level) va → RunsStatement setting n env p lives nb (b level) vb → RunsStatement setting n env p lives (max na nb) (if_code line a b level) (λ s. then_do (va s) (λ x s1. either (meaning.is_true x) s1 (λ s2. vb s2) (λ s2. Gives Done s2)))
       if_runs line level na nb a b va vb pb ra rb K w m s st go le h at here =
           let most : ℕ = max na nb in
           let behind_b : ℕ → Following = λ x s3. define x s3 go in
@@ -209,10 +207,10 @@ module _ (setting : Setting) where
           by false K w m1 s1 s2 sx x go h le at_b reach at_x =
               (there setting n env p lives K w (max na nb) m1 s1 sx.words h, reach, (sx, defined setting.text setting.size setting.ends x sx go at_x, refl), tt, there_after setting n env p lives K w (max na nb) m1 s1 sx.words h)
 
-      called_runs : (c : Call) → FairCalled p c → (level : ℕ) → RunsStatement (need_call (scopes_of p) c) (code_call p c level) (λ s. then_do (value setting.size next (call c) env lives s) (λ v s1. Gives Done s1))
+      called_runs : (c : Call) → FairCalled p c → (level : ℕ) → RunsStatement setting n env p lives (need_call (scopes_of p) c) (code_call p c level) (λ s. then_do (value setting.size next (call c) env lives s) (λ v s1. Gives Done s1))
       called_runs (Alone x) f level = out_cr (p x.number).what.kind (p x.number).what.count (p x.number).what.formals (p x.number).level (p x.number).address (found env x.number) x.line f (λ K w need m s h b i. h.frames env p b i x.number)
         where
-          out_cr : (kind : Kind) (count : ℕ) (formals : List Kind) (l a : ℕ) (d : Option Denoted) (line : ℕ) → kind ≡ OutCr → ((K : Known) (w need : ℕ) (m : Machine) (s : State Closure) → RunInvariant setting.text setting.size K w need env p m s lives → (b : ℕ) → K.frame env p b → Shows setting.text K m.regs.words s.store b kind (record { what = record { kind = kind; count = count; formals = formals }; level = l; address = a }) d) → RunsStatement 0 (alone_code (record { what = record { kind = kind; count = count; formals = formals }; level = l; address = a }) line level) (λ s. then_do (alone setting.size next d env line lives s) (λ v s1. Gives Done s1))
+          out_cr : (kind : Kind) (count : ℕ) (formals : List Kind) (l a : ℕ) (d : Option Denoted) (line : ℕ) → kind ≡ OutCr → ((K : Known) (w need : ℕ) (m : Machine) (s : State Closure) → RunInvariant setting.text setting.size K w need env p m s lives → (b : ℕ) → K.frame env p b → Shows setting.text K m.regs.words s.store b kind (record { what = record { kind = kind; count = count; formals = formals }; level = l; address = a }) d) → RunsStatement setting n env p lives 0 (alone_code (record { what = record { kind = kind; count = count; formals = formals }; level = l; address = a }) line level) (λ s. then_do (alone setting.size next d env line lives s) (λ v s1. Gives Done s1))
           out_cr OutCr count formals l a d line is shows = λ K w m s st go le h at here.
               let is_standard : d ≡ Some (AStandard OutCr) = shows K w 0 m s h h.sees.0 h.sees.3 in
               subst (λ d. RefinesOutcome setting.text setting.size Finished K K.label m s (Behind setting.text setting.size go) m.regs.base m.regs.top (NothingShown setting K) (then_do (alone setting.size next d env line lives s) (λ v s1. Gives Done s1))) (sym is_standard)
@@ -225,39 +223,40 @@ module _ (setting : Setting) where
           need_out kind formals need is = absurd (subst IsNotOutInteger is tt)
       called_runs (WithActuals x l a more m) f level = absurd f
 
-      mutual
-        pub statement_runs : (at : Where) (s : Statement) → FairStatement p s → (level : ℕ) → RunsStatement (need_statement (scopes_of p) s) (code_statement p at s level) (λ st. run setting.size next (statement s) env lives st)
-        statement_runs at (OneUnconditional u) f level = unconditional_runs at u f level
-        statement_runs at (OneConditional c) f level = conditional_runs at c f level
-        statement_runs at (OneLoop x) f level = absurd f
+      module _ (deeper : NextRuns setting n next) where
+        mutual
+          pub statement_runs : (at : Where) → AreWithin p at.level → (s : Statement) → FairStatement p at s → (level : ℕ) → RunsStatement setting n env p lives (need_statement (scopes_of p) s) (code_statement p at s level) (λ st. run setting.size next (statement s) env lives st)
+          statement_runs at below (OneUnconditional u) f level = unconditional_runs at below u f level
+          statement_runs at below (OneConditional c) f level = conditional_runs at below c f level
+          statement_runs at below (OneLoop x) f level = absurd f
 
-        pub statements_run : (at : Where) (ss : Statements) → FairStatements p ss → (level : ℕ) → RunsStatement (need_statements (scopes_of p) ss) (code_statements p at ss level) (λ st. run_all setting.size next (statements ss) env lives st)
-        statements_run at NoStatements f level = nothing_runs
-        statements_run at (MoreStatements l s ss) f level = seq_runs (code_statement p at s) (code_statements p (behind_statement at s) ss) level (need_statement (scopes_of p) s) (need_statements (scopes_of p) ss) (λ st. run setting.size next (statement s) env lives st) (λ st. run_all setting.size next (statements ss) env lives st) (statement_runs at s f.0 level) (statements_run (behind_statement at s) ss f.1 level)
+          pub statements_run : (at : Where) → AreWithin p at.level → (ss : Statements) → FairStatements p at ss → (level : ℕ) → RunsStatement setting n env p lives (need_statements (scopes_of p) ss) (code_statements p at ss level) (λ st. run_all setting.size next (statements ss) env lives st)
+          statements_run at below NoStatements f level = nothing_runs
+          statements_run at below (MoreStatements l s ss) f level = seq_runs (code_statement p at s) (code_statements p (behind_statement at s) ss) level (need_statement (scopes_of p) s) (need_statements (scopes_of p) ss) (λ st. run setting.size next (statement s) env lives st) (λ st. run_all setting.size next (statements ss) env lives st) (statement_runs at below s f.0 level) (statements_run (behind_statement at s) below ss f.1 level)
 
-        unconditional_runs : (at : Where) (u : Unconditional) → FairUnconditional p u → (level : ℕ) → RunsStatement (need_unconditional (scopes_of p) u) (code_unconditional p at u level) (λ st. run setting.size next (unconditional u) env lives st)
-        unconditional_runs at (MkUnconditional ls b) f level = behind_labels ls (code_basic p at b) level (need_basic (scopes_of p) b) (basic b) (basic_runs at b f.1 level)
+          unconditional_runs : (at : Where) → AreWithin p at.level → (u : Unconditional) → FairUnconditional p at u → (level : ℕ) → RunsStatement setting n env p lives (need_unconditional (scopes_of p) u) (code_unconditional p at u level) (λ st. run setting.size next (unconditional u) env lives st)
+          unconditional_runs at below (MkUnconditional ls b) f level = behind_labels ls (code_basic p at b) level (need_basic (scopes_of p) b) (basic b) (basic_runs at below b f.1 level)
 
-        basic_runs : (at : Where) (b : Basic) → FairBasic p b → (level : ℕ) → RunsStatement (need_basic (scopes_of p) b) (code_basic p at b level) (λ st. run setting.size next (basic b) env lives st)
-        basic_runs at (OneGroup g) f level = group_runs at g f level
-        basic_runs at (Assign q qs e) f level = assignment_runs setting n env p lives next q qs e (f.0, f.1) f.2 level
-        basic_runs at (Jump l e) f level = jump_runs setting n env p lives next l e f level
-        basic_runs at (CallStatement c) f level = called_runs c f level
-        basic_runs at Dummy f level = nothing_runs
+          basic_runs : (at : Where) → AreWithin p at.level → (b : Basic) → FairBasic p at b → (level : ℕ) → RunsStatement setting n env p lives (need_basic (scopes_of p) b) (code_basic p at b level) (λ st. run setting.size next (basic b) env lives st)
+          basic_runs at below (OneGroup g) f level = group_runs at below g f level
+          basic_runs at below (Assign q qs e) f level = assignment_runs setting n env p lives next q qs e (f.0, f.1) f.2 level
+          basic_runs at below (Jump l e) f level = jump_runs setting n env p lives next l e f level
+          basic_runs at below (CallStatement c) f level = called_runs c f level
+          basic_runs at below Dummy f level = nothing_runs
 
-        group_runs : (at : Where) (g : Group) → FairGroup p g → (level : ℕ) → RunsStatement (need_group (scopes_of p) g) (code_group p at g level) (λ st. run setting.size next (group g) env lives st)
-        group_runs at (MkBlock l d m ds s ss k) f level = absurd f
-        group_runs at (MkCompound l s ss k) f level = seq_runs (code_statement p at s) (code_statements p (behind_statement at s) ss) level (need_statement (scopes_of p) s) (need_statements (scopes_of p) ss) (λ st. run setting.size next (statement s) env lives st) (λ st. run_all setting.size next (statements ss) env lives st) (statement_runs at s f.0 level) (statements_run (behind_statement at s) ss f.1 level)
+          group_runs : (at : Where) → AreWithin p at.level → (g : Group) → FairGroup p at g → (level : ℕ) → RunsStatement setting n env p lives (need_group (scopes_of p) g) (code_group p at g level) (λ st. run setting.size next (group g) env lives st)
+          group_runs at below (MkBlock l d m ds s ss k) f level = deeper.block env p lives at below l d m ds s ss k f level
+          group_runs at below (MkCompound l s ss k) f level = seq_runs (code_statement p at s) (code_statements p (behind_statement at s) ss) level (need_statement (scopes_of p) s) (need_statements (scopes_of p) ss) (λ st. run setting.size next (statement s) env lives st) (λ st. run_all setting.size next (statements ss) env lives st) (statement_runs at below s f.0 level) (statements_run (behind_statement at s) below ss f.1 level)
 
-        conditional_runs : (at : Where) (c : Conditional) → FairConditional p c → (level : ℕ) → RunsStatement (need_conditional (scopes_of p) c) (code_conditional p at c level) (λ st. run setting.size next (conditional c) env lives st)
-        conditional_runs at (IfThen ls l e m u) f level =
-            behind_labels ls (if_code l (code_expr p e) (code_unconditional p at u)) level (max (need_expr (scopes_of p) e) (need_unconditional (scopes_of p) u)) (plain_tree.If (expr e) (unconditional u))
-            (if_runs l level (need_expr (scopes_of p) e) (need_unconditional (scopes_of p) u) (code_expr p e) (code_unconditional p at u) (λ st. value setting.size next (expr e) env lives st) (λ st. run setting.size next (unconditional u) env lives st) (passes_unconditional setting.text setting.size setting.ends p at u f.2 level) (expr_runs setting n env p lives next e f.1 level) (unconditional_runs at u f.2 level))
-        conditional_runs at (IfElse ls l e m u k s) f level =
-            let at1 : Where = further at (numbers_unconditional u) (owns_in_unconditional u) in
-            behind_labels ls (if_else_code l (code_expr p e) (code_unconditional p at u) (code_statement p at1 s)) level (max (need_expr (scopes_of p) e) (max (need_unconditional (scopes_of p) u) (need_statement (scopes_of p) s))) (plain_tree.IfElse (expr e) (unconditional u) (statement s))
-            (choice_runs setting n env p lives Finished (NothingShown setting) l level (need_expr (scopes_of p) e) (need_unconditional (scopes_of p) u) (need_statement (scopes_of p) s) (code_expr p e) (code_unconditional p at u) (code_statement p at1 s)
-            (λ st. value setting.size next (expr e) env lives st) (λ st. run setting.size next (unconditional u) env lives st) (λ st. run setting.size next (statement s) env lives st)
-            (passes_unconditional setting.text setting.size setting.ends p at u f.2 level) (passes_statement setting.text setting.size setting.ends p at1 s f.3 level) (λ K v m m1 er eq i. i)
-            (expr_runs setting n env p lives next e f.1 level) (unconditional_runs at u f.2 level) (statement_runs at1 s f.3 level))
-        conditional_runs at (IfLoop ls l e m x) f level = absurd f
+          conditional_runs : (at : Where) → AreWithin p at.level → (c : Conditional) → FairConditional p at c → (level : ℕ) → RunsStatement setting n env p lives (need_conditional (scopes_of p) c) (code_conditional p at c level) (λ st. run setting.size next (conditional c) env lives st)
+          conditional_runs at below (IfThen ls l e m u) f level =
+              behind_labels ls (if_code l (code_expr p e) (code_unconditional p at u)) level (max (need_expr (scopes_of p) e) (need_unconditional (scopes_of p) u)) (plain_tree.If (expr e) (unconditional u))
+              (if_runs l level (need_expr (scopes_of p) e) (need_unconditional (scopes_of p) u) (code_expr p e) (code_unconditional p at u) (λ st. value setting.size next (expr e) env lives st) (λ st. run setting.size next (unconditional u) env lives st) (passes_unconditional setting.text setting.size setting.ends p at u f.2 level) (expr_runs setting n env p lives next e f.1 level) (unconditional_runs at below u f.2 level))
+          conditional_runs at below (IfElse ls l e m u k s) f level =
+              let at1 : Where = further at (numbers_unconditional u) (owns_in_unconditional u) in
+              behind_labels ls (if_else_code l (code_expr p e) (code_unconditional p at u) (code_statement p at1 s)) level (max (need_expr (scopes_of p) e) (max (need_unconditional (scopes_of p) u) (need_statement (scopes_of p) s))) (plain_tree.IfElse (expr e) (unconditional u) (statement s))
+              (choice_runs setting n env p lives Finished (NothingShown setting) l level (need_expr (scopes_of p) e) (need_unconditional (scopes_of p) u) (need_statement (scopes_of p) s) (code_expr p e) (code_unconditional p at u) (code_statement p at1 s)
+              (λ st. value setting.size next (expr e) env lives st) (λ st. run setting.size next (unconditional u) env lives st) (λ st. run setting.size next (statement s) env lives st)
+              (passes_unconditional setting.text setting.size setting.ends p at u f.2 level) (passes_statement setting.text setting.size setting.ends p at1 s f.3 level) (λ K v m m1 er eq i. i)
+              (expr_runs setting n env p lives next e f.1 level) (unconditional_runs at below u f.2 level) (statement_runs at1 below s f.3 level))
+          conditional_runs at below (IfLoop ls l e m x) f level = absurd f

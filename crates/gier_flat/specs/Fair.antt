@@ -1,16 +1,19 @@
 -- The part of the language for which the law is proved: what it asks of expressions and statements in these places.
-use Rattle.std.proofs.Common.{◌≡◌, ◌<◌, List, [], ◌∷◌}
+use Rattle.std.proofs.Common.{◌≡◌, ◌<◌, suc, List, [], ◌∷◌}
 use Rattle.std.specs.Prelude.{⊤}
 use Rattle.gier_tree.specs.declared.kind.Kind.{Kind}
 use Rattle.gier_tree.specs.declared.kind.Kind.TheVariants.{IntegerVariable, BooleanVariable, IntegerValue, BooleanValue, Label}
 use Rattle.gier_tree.specs.declared.kind.Kind.TheVariants.{OutInteger, OutCr}
-use Rattle.gier_tree.specs.Places.{Places, program_places}
+use Rattle.gier_tree.specs.Entries.{entries_numbers, block_entries, program_entries, numbers_unconditional}
+use Rattle.gier_tree.specs.OwnCount.{owns_in_unconditional}
+use Rattle.gier_tree.specs.Places.{Places, block_places, program_places}
+use Rattle.gier_tree.specs.Texts.{Where, further, behind_statement, behind_declaration, behind_declarations, inner}
 use Rattle.gier_tree.specs.Trees.{Expr, OneSimple, IfExpr, Simple, OneImplication, Equivalent, Implication, OneDisjunction}
 use Rattle.gier_tree.specs.Trees.{Implies, Disjunction, OneConjunction, Either, Conjunction, OneNegation, Both, Negation}
 use Rattle.gier_tree.specs.Trees.{OneRelation, Negated, Relation, OneArithmetic, Compared, Arithmetic, OneTerm, Signed, Summed}
 use Rattle.gier_tree.specs.Trees.{Term, OneFactor, Multiplied, Factor, OnePrimary, Raised, Primary, Numeral, Logical, Bracketed}
 use Rattle.gier_tree.specs.Trees.{OneCall, OneElement, Call, Alone, WithActuals, OneExpr, NoActuals, LeftSide, OneName}
-use Rattle.gier_tree.specs.Trees.{LeftElement, LeftPart, LabelPlace, Group, MkBlock, MkCompound, Statements, NoStatements}
+use Rattle.gier_tree.specs.Trees.{LeftElement, LeftPart, LabelPlace, Declaration, Declarations, Group, MkBlock, MkCompound, Statements, NoStatements}
 use Rattle.gier_tree.specs.Trees.{MoreStatements, Statement, OneUnconditional, OneConditional, OneLoop, Unconditional}
 use Rattle.gier_tree.specs.Trees.{MkUnconditional, Basic, OneGroup, Assign, Jump, CallStatement, Dummy, Conditional, IfThen}
 use Rattle.gier_tree.specs.Trees.{IfElse, IfLoop, Program, MkProgram}
@@ -111,37 +114,48 @@ module _ (p : Places) where
   FairCalled (WithActuals x l (OneExpr e) NoActuals m) = ((p x.number).what.kind ≡ OutInteger) × FairExpr e
   FairCalled (WithActuals x l a more m) = ⊥
 
-  abbrev mutual
-    pub FairStatement : Statement → Type 0
-    FairStatement (OneUnconditional u) = FairUnconditional u
-    FairStatement (OneConditional c) = FairConditional c
-    FairStatement (OneLoop f) = ⊥
+-- what a block declares; none is covered yet
+abbrev pub FairHead : Places → Where → Declaration → Declarations → Statement → Statements → Type 0
+FairHead p at d ds s ss = ⊥
 
-    pub FairStatements : Statements → Type 0
-    FairStatements NoStatements = ⊤
-    FairStatements (MoreStatements l s ss) = FairStatement s × FairStatements ss
+-- statements, where they stand
+abbrev mutual
+  pub FairStatement : Places → Where → Statement → Type 0
+  FairStatement p at (OneUnconditional u) = FairUnconditional p at u
+  FairStatement p at (OneConditional c) = FairConditional p at c
+  FairStatement p at (OneLoop f) = ⊥
 
-    pub FairUnconditional : Unconditional → Type 0
-    FairUnconditional (MkUnconditional ls b) = FairLabels ls × FairBasic b
+  pub FairStatements : Places → Where → Statements → Type 0
+  FairStatements p at NoStatements = ⊤
+  FairStatements p at (MoreStatements l s ss) = FairStatement p at s × FairStatements p (behind_statement at s) ss
 
-    pub FairBasic : Basic → Type 0
-    FairBasic (OneGroup g) = FairGroup g
-    FairBasic (Assign q qs e) = FairLeft q.left × FairLefts qs × FairExpr e
-    FairBasic (Jump l e) = FairTarget e
-    FairBasic (CallStatement c) = FairCalled c
-    FairBasic Dummy = ⊤
+  pub FairUnconditional : Places → Where → Unconditional → Type 0
+  FairUnconditional p at (MkUnconditional ls b) = FairLabels p ls × FairBasic p at b
 
-    pub FairGroup : Group → Type 0
-    FairGroup (MkBlock l d m ds s ss n) = ⊥
-    FairGroup (MkCompound l s ss m) = FairStatement s × FairStatements ss
+  pub FairBasic : Places → Where → Basic → Type 0
+  FairBasic p at (OneGroup g) = FairGroup p at g
+  FairBasic p at (Assign q qs e) = FairLeft p q.left × FairLefts p qs × FairExpr p e
+  FairBasic p at (Jump l e) = FairTarget p e
+  FairBasic p at (CallStatement c) = FairCalled p c
+  FairBasic p at Dummy = ⊤
 
-    pub FairConditional : Conditional → Type 0
-    FairConditional (IfThen ls l e m u) = FairLabels ls × FairExpr e × FairUnconditional u
-    FairConditional (IfElse ls l e m u n s) = FairLabels ls × FairExpr e × FairUnconditional u × FairStatement s
-    FairConditional (IfLoop ls l e m f) = ⊥
+  pub FairGroup : Places → Where → Group → Type 0
+  FairGroup p at (MkBlock l d m ds s ss n) =
+      let q = block_places (suc at.level) at.numbers d ds s ss p in
+      let within = behind_declarations (behind_declaration (inner at (block_entries d ds s ss)) d) ds in
+      FairHead p at d ds s ss × FairStatement q within s × FairStatements q (behind_statement within s) ss
+  FairGroup p at (MkCompound l s ss m) = FairStatement p at s × FairStatements p (behind_statement at s) ss
 
--- a program without own quantities and without a block
+  pub FairConditional : Places → Where → Conditional → Type 0
+  FairConditional p at (IfThen ls l e m u) = FairLabels p ls × FairExpr p e × FairUnconditional p at u
+  FairConditional p at (IfElse ls l e m u n s) =
+      FairLabels p ls × FairExpr p e × FairUnconditional p at u
+      × FairStatement p (further at (numbers_unconditional u) (owns_in_unconditional u)) s
+  FairConditional p at (IfLoop ls l e m f) = ⊥
+
+-- a program without own quantities
 abbrev pub FairProgram : Program → Type 0
 FairProgram (MkProgram ls g l) =
-    let p = program_places (MkProgram ls g l) in
-    FairLabels p ls × FairGroup p g
+    let t = MkProgram ls g l in
+    let p = program_places t in
+    FairLabels p ls × FairGroup p (record { level = 1; numbers = entries_numbers (program_entries t); owns = 0 }) g
