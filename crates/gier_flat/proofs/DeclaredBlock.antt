@@ -32,9 +32,9 @@ use Rattle.gier_env.specs.Env.{Env, Inside, NoBindings, found, with_entities}
 use Rattle.gier_env.specs.Meaning.{within}
 use Rattle.gier_env.specs.Statements.{have, run_all}
 use Rattle.gier_env.specs.Tasks.{Next}
-use Rattle.gier_complete.proofs.Passing.{IsCarried}
+use Rattle.gier_complete.proofs.Passing.{Ahead, IsCarried, none}
 use Rattle.gier_complete.proofs.OrderPieces.{piece_is}
-use Rattle.gier_complete.proofs.StatementsCarry.{group_carries}
+use Rattle.gier_complete.proofs.StatementsCarry.{group_so}
 use Rattle.gier_fair.specs.InScope.{AreDistinct, identifiers as entry_identifiers}
 use Rattle.gier_flat.specs.FairScope.{FairScope}
 use Rattle.gier_flat.proofs.Positions.{At}
@@ -56,9 +56,9 @@ use Rattle.gier_flat.proofs.LabelPlaces.{IsPlaced, ArePlaced, placed_statements,
 use Rattle.gier_flat.proofs.Labels.{identifiers, among_entities, labels_same}
 
 -- behind a block's order stands its need
-need_carried : (need : ℕ) → IsCarried (λ n st rest. need_behind rest n ≡ need)
+need_carried : (need : ℕ) → IsCarried (λ n st rest. need_behind rest n.rooms ≡ need)
 need_carried need = record {
-  an_order = λ o other value line n st rest h. ap (λ p. need_at p n (need_behind rest)) (piece_is o value line) ∙ h;
+  an_order = λ o other value line n st rest h. ap (λ p. need_at p n.rooms (need_behind rest)) (piece_is o value line) ∙ h;
   a_use = λ value line n st rest h. h;
   a_word_use = λ value line n st rest h. h;
   a_word = λ value line n st rest h. h;
@@ -66,6 +66,7 @@ need_carried need = record {
   a_place = λ value line n st rest h. h;
   a_need = λ value line n st rest h. h;
   a_new = λ n st rest h. h;
+  same = λ n m rooms places st rest h. subst (λ r. need_behind rest r ≡ need) rooms h;
 }
 
 module _ (setting : Setting) (p : Places) (at : Where) (l : ℕ) (d : tree.Declaration) (mark : ℕ) (ds : tree.Declarations) (b : tree.Statement) (bs : tree.Statements) (end : ℕ) (f : FairScope p at d ds b bs) (low : AreWithin p at.level) where
@@ -139,7 +140,7 @@ module _ (setting : Setting) (p : Places) (at : Where) (l : ℕ) (d : tree.Decla
 
   need_there : (st : code.State) (go : Following) → need_behind (behind go st) 0 ≡ need
   need_there st go =
-      group_carries (λ n st rest. need_behind rest n ≡ need) (need_carried need) q inside (MkCompound 0 b bs 0) level words 0 (leaving need go) (λ s. refl) st
+      group_so (λ n st rest. need_behind rest n.rooms ≡ need) (need_carried need) q inside (MkCompound 0 b bs 0) level words (record { rooms = 0; places = none }) (leaving need go) (λ s. refl) st
 
   -- ---- what it declares
 
