@@ -10,9 +10,9 @@ use Rattle.gier_tree.specs.Orders.{State, Following, Code, number_of, behind_wor
 use Rattle.gier_tree.specs.Object.{piece_of, words_of}
 use Rattle.gier_tree.specs.Coded.{code_expr}
 use Rattle.gier_tree.specs.Places.{Places}
-use Rattle.gier_tree.specs.Text7.{code_group, code_statement}
+use Rattle.gier_tree.specs.Text7.{code_group, code_statement, code_unconditional}
 use Rattle.gier_tree.specs.Texts.{Where}
-use Rattle.gier_tree.specs.Trees.{Expr, Group, MkCompound, Statement, NoStatements}
+use Rattle.gier_tree.specs.Trees.{Expr, Group, MkCompound, Statement, NoStatements, OneUnconditional, Unconditional}
 use Rattle.gier_tree.specs.Words.{HasStop, stop_tag}
 use Rattle.gier_complete.proofs.Passing.{IsNoStop, Ahead, Claim, IsCarried, CodeCarries, none}
 use Rattle.gier_complete.proofs.ExpressionsCarry.{expr_carries}
@@ -61,3 +61,6 @@ module _ (text : List Symbol) (size : ℕ) (ends : HasStop text) where
   -- it is a group of its own
   pub statement_passes : (p : Places) (at : Where) (s : Statement) (level w : ℕ) → Passes text size ends (code_statement p at s level w)
   statement_passes p at s = group_passes p at (MkCompound 0 s NoStatements 0)
+
+  pub unconditional_passes : (p : Places) (at : Where) (u : Unconditional) (level w : ℕ) → Passes text size ends (code_unconditional p at u level w)
+  unconditional_passes p at u = statement_passes p at (OneUnconditional u)

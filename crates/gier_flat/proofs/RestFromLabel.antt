@@ -37,7 +37,7 @@ use Rattle.gier_flat.proofs.Orders.{placed}
 use Rattle.gier_flat.proofs.Expressions.{jump_reach}
 use Rattle.gier_env.specs.Statements.{has, have, is_label, resume, resume_all}
 use Rattle.std.proofs.lemmas.Bool.{eqb-true}
-use Rattle.gier_flat.proofs.StatementContinuations.{passes_unconditional, passes_statement}
+use Rattle.gier_flat.proofs.AllPasses.{unconditional_passes, statement_passes}
 use Rattle.gier_flat.proofs.Continuations.{Passes}
 use Rattle.gier_flat.proofs.Expressions.{there, there_after}
 use Rattle.gier_flat.specs.Fair.{FairLabels, FairStatement, FairStatements, FairUnconditional, FairBasic, FairConditional}
@@ -204,7 +204,7 @@ module _ (setting : Setting) where
         resume_statements at below (MoreStatements l s ss) f level =
             resume_seq (code_statement p at s) (code_statements p (behind_statement at s) ss) level (need_statement (scopes_of p) s) (need_statements (scopes_of p) ss) (has label env (statement s)) (have label env (statements ss))
             (λ st. Gives Done st) (λ st. resume setting.size next label (statement s) env lives st) (λ st. resume_all setting.size next label (statements ss) env lives st) (λ st. run_all setting.size next (statements ss) env lives st)
-            (passes_statement setting.text setting.size setting.ends p at s f.0 level) (resume_statement at below s f.0 level) (statements_run setting n env p lives next deeper (behind_statement at s) below ss f.1 level) (resume_statements (behind_statement at s) below ss f.1 level)
+            (statement_passes setting.text setting.size setting.ends p at s level) (resume_statement at below s f.0 level) (statements_run setting n env p lives next deeper (behind_statement at s) below ss f.1 level) (resume_statements (behind_statement at s) below ss f.1 level)
 
         resume_unconditional : (at : Where) → AreWithin p at.level → (u : Unconditional) → FairUnconditional p at u → (level : ℕ) → Resumes (need_unconditional (scopes_of p) u) (code_unconditional p at u level) (has label env (unconditional u)) (λ st. resume setting.size next label (unconditional u) env lives st)
         resume_unconditional at below (MkUnconditional ls b) f level = resume_labels ls f.0 (code_basic p at b) level (need_basic (scopes_of p) b) (basic b) (basic_run at below b f.1 level) (resume_basic at below b f.1 level)
@@ -214,7 +214,7 @@ module _ (setting : Setting) where
         resume_basic at below (OneGroup (MkCompound l s ss k)) f level =
             resume_seq (code_statement p at s) (code_statements p (behind_statement at s) ss) level (need_statement (scopes_of p) s) (need_statements (scopes_of p) ss) (has label env (statement s)) (have label env (statements ss))
             (λ st. Gives Done st) (λ st. resume setting.size next label (statement s) env lives st) (λ st. resume_all setting.size next label (statements ss) env lives st) (λ st. run_all setting.size next (statements ss) env lives st)
-            (passes_statement setting.text setting.size setting.ends p at s f.0 level) (resume_statement at below s f.0 level) (statements_run setting n env p lives next deeper (behind_statement at s) below ss f.1 level) (resume_statements (behind_statement at s) below ss f.1 level)
+            (statement_passes setting.text setting.size setting.ends p at s level) (resume_statement at below s f.0 level) (statements_run setting n env p lives next deeper (behind_statement at s) below ss f.1 level) (resume_statements (behind_statement at s) below ss f.1 level)
         resume_basic at below (Assign q qs e) f level = no_label (need_basic (scopes_of p) (Assign q qs e)) (code_basic p at (Assign q qs e) level) (λ st. Gives Done st)
         resume_basic at below (Jump l e) f level = no_label (need_basic (scopes_of p) (Jump l e)) (code_basic p at (Jump l e) level) (λ st. Gives Done st)
         resume_basic at below (CallStatement c) f level = no_label (need_basic (scopes_of p) (CallStatement c)) (code_basic p at (CallStatement c) level) (λ st. Gives Done st)
@@ -232,5 +232,5 @@ module _ (setting : Setting) where
             resume_labels ls f.0 (if_else_code l (code_expr p e) (code_unconditional p at u) (code_statement p at1 s)) level (need_conditional (scopes_of p) whole) (plain_tree.IfElse (expr e) (unconditional u) (statement s))
             (statement_runs setting n env p lives next deeper at below (OneConditional whole) (tt, f.1, f.2, f.3) level)
             (resume_choice l level (need_expr (scopes_of p) e) (need_unconditional (scopes_of p) u) (need_statement (scopes_of p) s) (code_expr p e) (code_unconditional p at u) (code_statement p at1 s) (has label env (unconditional u)) (has label env (statement s)) (λ st. resume setting.size next label (unconditional u) env lives st) (λ st. resume setting.size next label (statement s) env lives st)
-            (passes_expr setting.text setting.size setting.ends p e f.1 level) (passes_unconditional setting.text setting.size setting.ends p at u f.2 level) (passes_statement setting.text setting.size setting.ends p at1 s f.3 level) (resume_unconditional at below u f.2 level) (resume_statement at1 below s f.3 level))
+            (passes_expr setting.text setting.size setting.ends p e f.1 level) (unconditional_passes setting.text setting.size setting.ends p at u level) (statement_passes setting.text setting.size setting.ends p at1 s level) (resume_unconditional at below u f.2 level) (resume_statement at1 below s f.3 level))
         resume_conditional at below (IfLoop ls l e m x) f level = absurd f

@@ -41,7 +41,7 @@ use Rattle.gier_flat.proofs.Values.{Same, Runs}
 use Rattle.gier_flat.proofs.Expressions.{expr_runs, choice_runs}
 use Rattle.gier_flat.proofs.Assignments.{NothingShown, assignment_runs}
 use Rattle.gier_flat.proofs.GoTo.{jump_runs}
-use Rattle.gier_flat.proofs.StatementContinuations.{passes_unconditional, passes_statement}
+use Rattle.gier_flat.proofs.AllPasses.{unconditional_passes, statement_passes}
 use Rattle.gier_flat.proofs.Continuations.{Passes}
 use Rattle.gier_flat.proofs.Expressions.{there, there_after, there_here, test_reach}
 use Rattle.gier_flat.specs.Fair.{FairStatement, FairStatements, FairUnconditional, FairBasic, FairGroup, FairConditional}
@@ -251,12 +251,12 @@ module _ (setting : Setting) where
           conditional_runs : (at : Where) → AreWithin p at.level → (c : Conditional) → FairConditional p at c → (level : ℕ) → RunsStatement setting n env p lives (need_conditional (scopes_of p) c) (code_conditional p at c level) (λ st. run setting.size next (conditional c) env lives st)
           conditional_runs at below (IfThen ls l e m u) f level =
               behind_labels ls (if_code l (code_expr p e) (code_unconditional p at u)) level (max (need_expr (scopes_of p) e) (need_unconditional (scopes_of p) u)) (plain_tree.If (expr e) (unconditional u))
-              (if_runs l level (need_expr (scopes_of p) e) (need_unconditional (scopes_of p) u) (code_expr p e) (code_unconditional p at u) (λ st. value setting.size next (expr e) env lives st) (λ st. run setting.size next (unconditional u) env lives st) (passes_unconditional setting.text setting.size setting.ends p at u f.2 level) (expr_runs setting n env p lives next e f.1 level) (unconditional_runs at below u f.2 level))
+              (if_runs l level (need_expr (scopes_of p) e) (need_unconditional (scopes_of p) u) (code_expr p e) (code_unconditional p at u) (λ st. value setting.size next (expr e) env lives st) (λ st. run setting.size next (unconditional u) env lives st) (unconditional_passes setting.text setting.size setting.ends p at u level) (expr_runs setting n env p lives next e f.1 level) (unconditional_runs at below u f.2 level))
           conditional_runs at below (IfElse ls l e m u k s) f level =
               let at1 : Where = further at (numbers_unconditional u) (owns_in_unconditional u) in
               behind_labels ls (if_else_code l (code_expr p e) (code_unconditional p at u) (code_statement p at1 s)) level (max (need_expr (scopes_of p) e) (max (need_unconditional (scopes_of p) u) (need_statement (scopes_of p) s))) (plain_tree.IfElse (expr e) (unconditional u) (statement s))
               (choice_runs setting n env p lives Finished (NothingShown setting) l level (need_expr (scopes_of p) e) (need_unconditional (scopes_of p) u) (need_statement (scopes_of p) s) (code_expr p e) (code_unconditional p at u) (code_statement p at1 s)
               (λ st. value setting.size next (expr e) env lives st) (λ st. run setting.size next (unconditional u) env lives st) (λ st. run setting.size next (statement s) env lives st)
-              (passes_unconditional setting.text setting.size setting.ends p at u f.2 level) (passes_statement setting.text setting.size setting.ends p at1 s f.3 level) (λ K v m m1 er eq i. i)
+              (unconditional_passes setting.text setting.size setting.ends p at u level) (statement_passes setting.text setting.size setting.ends p at1 s level) (λ K v m m1 er eq i. i)
               (expr_runs setting n env p lives next e f.1 level) (unconditional_runs at below u f.2 level) (statement_runs at1 below s f.3 level))
           conditional_runs at below (IfLoop ls l e m x) f level = absurd f
