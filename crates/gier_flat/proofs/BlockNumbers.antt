@@ -36,7 +36,7 @@ labels_numbered [] level address number k p e h = tt
 labels_numbered (l ∷ ls) level address number k p e h = (
   ap (λ t. (if t then record { what = plain Label; level = level; address = number } else place_all level (address + 0) (number + 1) (label_entries ls) p l.name.number).address) (eq-eqb l.name.number l.name.number refl) ∙ e,
   skipped l.name.number (record { what = plain Label; level = level; address = number }) (place_all level (address + 0) (number + 1) (label_entries ls) p) (suc k) ls h.0
-  (labels_numbered ls level (address + 0) (number + 1) (suc k) p (omega (arith, e)) h.1),
+      (labels_numbered ls level (address + 0) (number + 1) (suc k) p (omega (arith, e)) h.1),
 )
 
 no_number : (t : ValueType) → kind_numbers (variable_kind t) ≡ 0

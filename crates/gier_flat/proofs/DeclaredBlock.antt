@@ -130,7 +130,7 @@ module _ (setting : Setting) (p : Places) (at : Where) (l : ℕ) (d : tree.Decla
 
   inside_is : (st : code.State) (go : Following)
       → code_declaration q (inner at (block_entries d ds b bs)) d level words st (λ s1. code_declarations q (behind_declaration (inner at (block_entries d ds b bs)) d) ds level words s1
-        (λ s2. code_statements q inside body level words s2 (leaving (need_block (scopes_of q) d ds b bs) go)))
+      (λ s2. code_statements q inside body level words s2 (leaving (need_block (scopes_of q) d ds b bs) go)))
       ≡ behind go st
   inside_is st go =
       let rest : Following = λ s2. code_statements q inside body level words s2 (leaving (need_block (scopes_of q) d ds b bs) go) in

@@ -13,10 +13,11 @@ use Rattle.gier_tree.specs.Trees.{Implies, Disjunction, OneConjunction, Either, 
 use Rattle.gier_tree.specs.Trees.{OneRelation, Negated, Relation, OneArithmetic, Compared, Arithmetic, OneTerm, Signed, Summed}
 use Rattle.gier_tree.specs.Trees.{Term, OneFactor, Multiplied, Factor, OnePrimary, Raised, Primary, Numeral, Logical, Bracketed}
 use Rattle.gier_tree.specs.Trees.{OneCall, OneElement, Call, Alone, WithActuals, OneExpr, NoActuals, LeftSide, OneName}
-use Rattle.gier_tree.specs.Trees.{LeftElement, LeftPart, LabelPlace, Declaration, Declarations, Group, MkBlock, MkCompound, Statements, NoStatements}
+use Rattle.gier_tree.specs.Trees.{LeftElement, LeftPart, LabelPlace, Group, MkBlock, MkCompound, Statements, NoStatements}
 use Rattle.gier_tree.specs.Trees.{MoreStatements, Statement, OneUnconditional, OneConditional, OneLoop, Unconditional}
 use Rattle.gier_tree.specs.Trees.{MkUnconditional, Basic, OneGroup, Assign, Jump, CallStatement, Dummy, Conditional, IfThen}
 use Rattle.gier_tree.specs.Trees.{IfElse, IfLoop, Program, MkProgram}
+use Rattle.gier_flat.specs.FairScope.{FairScope}
 
 abbrev pub IsCell : Kind → Type 0
 IsCell IntegerVariable = ⊤
@@ -114,10 +115,6 @@ module _ (p : Places) where
   FairCalled (WithActuals x l (OneExpr e) NoActuals m) = ((p x.number).what.kind ≡ OutInteger) × FairExpr e
   FairCalled (WithActuals x l a more m) = ⊥
 
--- what a block declares; none is covered yet
-abbrev pub FairHead : Places → Where → Declaration → Declarations → Statement → Statements → Type 0
-FairHead p at d ds s ss = ⊥
-
 -- statements, where they stand
 abbrev mutual
   pub FairStatement : Places → Where → Statement → Type 0
@@ -143,7 +140,7 @@ abbrev mutual
   FairGroup p at (MkBlock l d m ds s ss n) =
       let q = block_places (suc at.level) at.numbers d ds s ss p in
       let within = behind_declarations (behind_declaration (inner at (block_entries d ds s ss)) d) ds in
-      FairHead p at d ds s ss × FairStatement q within s × FairStatements q (behind_statement within s) ss
+      FairScope p at d ds s ss × FairStatement q within s × FairStatements q (behind_statement within s) ss
   FairGroup p at (MkCompound l s ss m) = FairStatement p at s × FairStatements p (behind_statement at s) ss
 
   pub FairConditional : Places → Where → Conditional → Type 0
