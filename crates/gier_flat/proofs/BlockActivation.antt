@@ -1,42 +1,36 @@
 -- The activation of a block of this part: its variables are cells, its labels are known, and each identifier means what its place shows.
-use Rattle.std.proofs.Common.{◌≡◌, ℕ, suc, ◌+◌, ◌*◌, ◌-◌, ◌<◌, ◌≤◌, Bool, true, false, pos, List, [], ◌∷◌, ◌++◌, length, Option, Some, refl, sym, ap, ◌∙◌, subst, arith, inl, inr}
+use Rattle.std.proofs.Common.{◌≡◌, ℕ, suc, ◌+◌, ◌*◌, ◌-◌, ◌<◌, ◌≤◌, Bool, true, false, List, [], ◌∷◌, ◌++◌, length, Option, Some, refl, sym, ap, ◌∙◌, subst, arith, inl, inr}
 use Rattle.std.specs.Prelude.{◌==◌, ◌^◌, ◌%◌, max, if◌then◌else◌}
 use Rattle.std.proofs.lemmas.Nat.{div-mul-add}
 use Rattle.std.proofs.lemmas.List.{append-nil}
 use Rattle.gier_order.specs.Flat.Region.{level_in, outer_in, level_unit}
 use Rattle.gier_order.specs.Flat.Rows.{inside}
-use Rattle.gier_tree.specs.Coded.{scopes_of}
-use Rattle.gier_tree.specs.declared.kind.Kind.{Kind}
 use Rattle.gier_tree.specs.declared.kind.Kind.TheVariants.{Label}
 use Rattle.gier_tree.specs.Described.{plain, variable_kind}
-use Rattle.gier_tree.specs.Entries.{Entry, entry, kind_words, kind_numbers, label_entries, block_entries}
-use Rattle.gier_tree.specs.Need.{need_statements}
+use Rattle.gier_tree.specs.Entries.{Entry, entry, kind_words, kind_numbers, label_entries}
 use Rattle.gier_tree.specs.Object.{address_of}
-use Rattle.gier_tree.specs.Places.{Placed, Places, place_all, block_places}
-use Rattle.gier_tree.specs.Texts.{Where}
-use Rattle.gier_tree.specs.Trees as tree
+use Rattle.gier_tree.specs.Places.{Placed, Places, place_all}
 use Rattle.gier_tree.specs.Trees.{Name, ValueType, IntegerType, BooleanType, LabelPlace}
 use Rattle.gier_meaning.specs.Accounts.{with_left, with_most}
 use Rattle.gier_meaning.specs.Live.{Live, live_words, InBlock}
 use Rattle.gier_meaning.specs.Plain.{value_kind}
 use Rattle.gier_meaning.specs.Scopes.{Declared, Quantity, quantities}
-use Rattle.gier_meaning.specs.State.{State, ACell, given_out}
+use Rattle.gier_meaning.specs.State.{State, given_out}
 use Rattle.gier_meaning.specs.TurnLabels.{entities_from, labels_made}
 use Rattle.gier_env.specs.Closures.{Closure}
 use Rattle.gier_env.specs.Env.{Env, Inside, NoBindings, Denoted, AnEntity, found, found_in, assigned_in, denotation_as_left_part, with_entities}
 use Rattle.gier_fair.specs.InScope.{AreDistinct, identifiers as entry_identifiers}
 use Rattle.gier_flat.proofs.OrderRows.{Machine, object}
 use Rattle.gier_flat.proofs.Setting.{Setting}
-use Rattle.gier_flat.proofs.StackRelation.{Known, Within, Zeros, sort, Shows, IsVariable, IsPlain, Chain, RunInvariant, shows_keeps, zeros_keep, chain_keeps}
+use Rattle.gier_flat.proofs.StackRelation.{Known, Within, sort, Shows, IsVariable, IsPlain, Chain, RunInvariant, shows_keeps, zeros_keep, chain_keeps}
 use Rattle.gier_flat.proofs.Composition.{put_same, put_other as put_elsewhere}
 use Rattle.gier_flat.proofs.Orders.{to}
 use Rattle.gier_flat.proofs.NewActivation.{NewActivation, Inner, opened_below, opened_level, opened_old}
 use Rattle.gier_flat.proofs.DeclaredQuantities.{InStep, shows_through, declared_shows}
 use Rattle.gier_flat.proofs.DeclaredEntities.{Variable, numbers_of, numbers_count, Mean, mean, mean_both, put_all, AreCells, put_other, put_cells, put_same as put_state, cell_at}
-use Rattle.gier_flat.proofs.BlockEntries.{variables, block_labels, variable_entries, quantities_both}
-use Rattle.gier_flat.proofs.Labels.{identifiers, entities_count, older_kept, label_made, labels_same}
+use Rattle.gier_flat.proofs.BlockEntries.{variable_entries, quantities_both}
+use Rattle.gier_flat.proofs.Labels.{identifiers, older_kept, label_made, labels_same}
 use Rattle.gier_flat.proofs.LabelPlaces.{IsPlaced}
-use Rattle.gier_flat.proofs.BlockRuns.{AreWithin}
 
 pub quantities_count : (xs : List ℕ) → length (quantities xs) ≡ length xs
 quantities_count [] = refl

@@ -1,9 +1,7 @@
 -- The variables that a block of this part declares: its entries, what it makes and its code are told by their list.
-use Rattle.std.proofs.Common.{◌≡◌, ℕ, zero, suc, ◌+◌, pos, List, [], ◌∷◌, ◌++◌, length, refl, sym, ap, ap₂, ◌∙◌, subst, arith}
-use Rattle.std.specs.Prelude.{map, max}
-use Rattle.std.proofs.lemmas.List.{append_assoc, append-nil}
-use Rattle.gier_symbol.specs.declared.symbol.Symbol.{Symbol}
-use Rattle.gier_agree.specs.declared.kind.Kind.{Kind as Fitting}
+use Rattle.std.proofs.Common.{◌≡◌, ℕ, suc, ◌+◌, pos, List, [], ◌∷◌, ◌++◌, length, refl, sym, ap, ap₂, ◌∙◌, arith}
+use Rattle.std.specs.Prelude.{map}
+use Rattle.std.proofs.lemmas.List.{append-nil}
 use Rattle.gier_tree.specs.Declaring.{list_of, labels_of_statement, labels_of_statements}
 use Rattle.gier_tree.specs.Described as described
 use Rattle.gier_tree.specs.Described.{Scopes, variable_kind}
@@ -12,15 +10,15 @@ use Rattle.gier_tree.specs.Need.{need_declaration, need_declarations, need_state
 use Rattle.gier_tree.specs.Orders as code
 use Rattle.gier_tree.specs.Orders.{Following}
 use Rattle.gier_tree.specs.Places.{Places}
-use Rattle.gier_tree.specs.Room.{declared_words, all_declared_words, block_words, block_header}
+use Rattle.gier_tree.specs.Room.{declared_words, all_declared_words, block_words}
 use Rattle.gier_tree.specs.Text7.{code_declaration, code_declarations}
 use Rattle.gier_tree.specs.Texts.{Where, behind_declaration}
 use Rattle.gier_tree.specs.Trees as tree
 use Rattle.gier_tree.specs.Trees.{Name, Names, ValueType, LabelPlace}
 use Rattle.gier_meaning.specs.Live.{Live}
-use Rattle.gier_meaning.specs.Outcome.{Outcome, Gives}
+use Rattle.gier_meaning.specs.Outcome.{Gives}
 use Rattle.gier_meaning.specs.Plain as plain
-use Rattle.gier_meaning.specs.Scopes.{Declared, Quantity, quantities, identifiers_in, declared_names, of_block, labels, all_labels}
+use Rattle.gier_meaning.specs.Scopes.{Quantity, quantities, identifiers_in, declared_names, of_block, labels, all_labels}
 use Rattle.gier_meaning.specs.State.{State, ACell}
 use Rattle.gier_meaning.specs.Tree as plain_tree
 use Rattle.gier_env.specs.Blocks.{all_made, made, arrays}

@@ -1,12 +1,11 @@
 -- The room of a block is the same by its places and by what the meaning asks its store.
-use Rattle.std.proofs.Common.{◌≡◌, ℕ, suc, ◌+◌, ◌<◌, pos, List, [], Option, Some, None, refl, sym, ap, ◌∙◌, subst}
+use Rattle.std.proofs.Common.{◌≡◌, ℕ, suc, ◌+◌, pos, List, [], Option, Some, None, refl, sym, ap, ◌∙◌, subst}
 use Rattle.std.specs.Prelude.{max}
 use Rattle.gier_agree.specs.declared.kind.Kind.{Kind as Fitting}
 use Rattle.gier_symbol.specs.declared.symbol.Symbol.{Symbol}
 use Rattle.gier_tree.specs.declared.kind.Kind.{Kind}
 use Rattle.gier_tree.specs.declared.kind.Kind.TheVariants.{Undeclared, IntegerVariable, BooleanVariable, IntegerValue, BooleanValue, Label, OutInteger, OutText, OutCr, OutChar, InInteger, InChar, Abs, Sign}
 use Rattle.gier_tree.specs.Coded.{scopes_of}
-use Rattle.gier_tree.specs.Described.{Described}
 use Rattle.gier_tree.specs.Need as tree_need
 use Rattle.gier_tree.specs.Need.{need_block}
 use Rattle.gier_tree.specs.Places.{Placed, Places, block_places}

@@ -1,5 +1,5 @@
 -- What is said of a block's run, and what of its statements' run it is proved from.
-use Rattle.std.proofs.Common.{◌≡◌, ℕ, suc, ◌≤◌, List, []}
+use Rattle.std.proofs.Common.{◌≡◌, ℕ, ◌≤◌, List}
 use Rattle.gier_tree.specs.Orders as code
 use Rattle.gier_tree.specs.Orders.{Following}
 use Rattle.gier_tree.specs.Coded.{scopes_of}
@@ -40,10 +40,3 @@ module _ (setting : Setting) where
       (env : Env) (lives : Live) (K : Known) (w need : ℕ) (m : Machine) (s : State Closure) (st : code.State) (go : Following) → s.left ≤ steps
       → RunInvariant setting.text setting.size K w need env p m s lives → At setting.text st (code_group p at g level w st go) → m.regs.place ≡ st.words
       → RefinesOutcome setting.text setting.size Finished K K.label m s (Behind setting.text setting.size go) m.regs.base m.regs.top (NothingShown setting K) (run setting.size (within setting.size steps) (group g) env lives s)
-
--- In DeclaredBlock, for each block that stands there:
---   block_follows : AreWithin p at.level → FairScope p at d ds s ss
---       → ((k : ℕ) → k < steps → ScopeRuns setting k q w3 (MoreStatements m s ss) (suc at.level))
---       → BlockRuns setting steps p at (MkBlock l d m ds s ss n) level
--- where q and w3 are the places and the Where of its statements as code_group has them; and
---   inner_within : AreWithin p at.level → FairScope p at d ds s ss → AreWithin q (suc at.level)

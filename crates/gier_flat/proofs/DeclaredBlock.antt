@@ -1,14 +1,13 @@
 -- A block of this part runs as it means: what it is entered with follows from its declarations, and from its statements' run.
 use Rattle.std.proofs.Common.{◌≡◌, ℕ, suc, ◌+◌, ◌*◌, ◌<◌, ◌≤◌, true, List, [], ◌∷◌, ◌++◌, length, refl, sym, ap, ◌∙◌, subst, arith}
 use Rattle.std.specs.Prelude.{◌^◌, max}
-use Rattle.gier_symbol.specs.declared.symbol.Symbol.{Symbol}
 use Rattle.gier_symbol.specs.declared.tag.Tag.TheVariants.{OpenRoom}
 use Rattle.gier_symbol.specs.ByTag.{sym as tagged}
 use Rattle.gier_order.specs.declared.operation.Operation.TheVariants as op
 use Rattle.gier_tree.specs.Coded.{scopes_of}
 use Rattle.gier_tree.specs.Entries.{Entry, label_entries, block_entries}
 use Rattle.gier_tree.specs.Need.{need_block, need_statements}
-use Rattle.gier_tree.specs.Object.{piece_of, need_at, need_behind}
+use Rattle.gier_tree.specs.Object.{need_at, need_behind}
 use Rattle.gier_tree.specs.Orders as code
 use Rattle.gier_tree.specs.Orders.{Following, number_of, behind_word}
 use Rattle.gier_tree.specs.Places.{Places, place_all, block_places}
@@ -26,13 +25,13 @@ use Rattle.gier_meaning.specs.Scopes.{Declared, declared_names, of_block, all_la
 use Rattle.gier_meaning.specs.State.{State, given_out}
 use Rattle.gier_meaning.specs.Tree as plain_tree
 use Rattle.gier_meaning.specs.TurnLabels.{entities_from, labels_made}
-use Rattle.gier_env.specs.Blocks.{made, arrays, activated_block}
+use Rattle.gier_env.specs.Blocks.{made, activated_block}
 use Rattle.gier_env.specs.Closures.{Closure, what_of}
 use Rattle.gier_env.specs.Env.{Env, Inside, NoBindings, found, with_entities}
 use Rattle.gier_env.specs.Meaning.{within}
 use Rattle.gier_env.specs.Statements.{have, run_all}
 use Rattle.gier_env.specs.Tasks.{Next}
-use Rattle.gier_complete.proofs.Passing.{Ahead, IsCarried, none}
+use Rattle.gier_complete.proofs.Passing.{IsCarried, none}
 use Rattle.gier_complete.proofs.OrderPieces.{piece_is}
 use Rattle.gier_complete.proofs.StatementsCarry.{group_so}
 use Rattle.gier_fair.specs.InScope.{AreDistinct, identifiers as entry_identifiers}
@@ -51,7 +50,7 @@ use Rattle.gier_flat.proofs.BlockEntries.{variables, block_labels, variable_entr
 use Rattle.gier_flat.proofs.BlockActivation as activation
 use Rattle.gier_flat.proofs.BlockActivation.{quantities_count}
 use Rattle.gier_flat.proofs.BlockNumbers.{Numbered, numbered, good, entries_within, among_from}
-use Rattle.gier_flat.proofs.DeclaredEntities.{Variable, numbers_of, numbers_count, Mean, mean, mean_both, mean_at, put_all, put_same}
+use Rattle.gier_flat.proofs.DeclaredEntities.{Variable, numbers_of, Mean, mean, mean_both, mean_at, put_all, put_same}
 use Rattle.gier_flat.proofs.LabelPlaces.{IsPlaced, ArePlaced, placed_statements, have_label}
 use Rattle.gier_flat.proofs.Labels.{identifiers, among_entities, labels_same}
 

@@ -1,5 +1,5 @@
 -- What is entered runs as its meaning says, by induction on the permitted steps: a step was charged for each entry.
-use Rattle.std.proofs.Common.{◌≡◌, ℕ, zero, suc, ◌<◌, ◌≤◌, sym, subst, arith, inl, inr, ◌⊎◌, ⊎_elim}
+use Rattle.std.proofs.Common.{◌≡◌, ℕ, zero, suc, ◌<◌, subst, arith, inl, inr, ◌⊎◌, ⊎_elim}
 use Rattle.gier_tree.specs.Places.{Places}
 use Rattle.gier_tree.specs.Text7.{code_group}
 use Rattle.gier_tree.specs.Texts.{Where}

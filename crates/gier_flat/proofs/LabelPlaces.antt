@@ -1,9 +1,8 @@
 -- The labels of a scope have their places in the code of its statements, so their addresses are known; and a scope has the labels that
 -- its identifiers mean.
-use Rattle.std.proofs.Common.{◌≡◌, ℕ, zero, suc, ◌+◌, ◌<◌, ◌≤◌, Bool, true, false, List, [], ◌∷◌, ◌++◌, length, Option, Some, refl, sym, ap, ◌∙◌, subst, arith}
+use Rattle.std.proofs.Common.{◌≡◌, ℕ, suc, ◌+◌, ◌<◌, ◌≤◌, Bool, true, false, List, [], ◌∷◌, ◌++◌, length, Some, refl, sym, ap, ◌∙◌, subst, arith}
 use Rattle.std.specs.Prelude.{◌^◌, ◌==◌, ◌||◌, ⊤}
 use Rattle.std.proofs.lemmas.Bool.{eq-eqb, eqb-true}
-use Rattle.gier_symbol.specs.declared.symbol.Symbol.{Symbol}
 use Rattle.gier_symbol.specs.declared.tag.Tag.TheVariants.{LabelPlace as PlaceTag}
 use Rattle.gier_symbol.specs.ByTag.{sym as tagged}
 use Rattle.gier_order.specs.declared.operation.Operation.TheVariants as op
@@ -21,7 +20,7 @@ use Rattle.gier_tree.specs.Trees.{LabelPlace, Group, MkBlock, MkCompound, Statem
 use Rattle.gier_meaning.specs.Outcome.{is_among}
 use Rattle.gier_meaning.specs.Scopes.{labels, all_labels, identifier_in}
 use Rattle.gier_meaning.specs.Tree as plain
-use Rattle.gier_env.specs.Env.{Env, Denoted, AnEntity, found, denotation}
+use Rattle.gier_env.specs.Env.{Env, AnEntity, found, denotation}
 use Rattle.gier_env.specs.Statements.{is_label, has, have}
 use Rattle.gier_flat.proofs.Positions.{At, within}
 use Rattle.gier_flat.proofs.OrderRows.{object}

@@ -1,6 +1,6 @@
 -- The activation of a program: its labels are known, and each identifier means what its place shows.
 use Rattle.std.proofs.Common.{◌≡◌, ℕ, suc, ◌+◌, ◌<◌, ◌≤◌, Bool, true, false, List, [], ◌∷◌, length, Option, Some, refl, sym, ap, ◌∙◌, subst, arith, inr}
-use Rattle.std.specs.Prelude.{◌==◌, ◌^◌, if◌then◌else◌}
+use Rattle.std.specs.Prelude.{◌==◌, if◌then◌else◌}
 use Rattle.gier_order.specs.Flat.Region.{level_in}
 use Rattle.gier_order.specs.Flat.Rows.{first_activation}
 use Rattle.gier_order.specs.Flat.Run.{machine_at_start}
@@ -21,6 +21,7 @@ use Rattle.gier_env.specs.Env.{Env, Outermost, Inside, NoBindings, Denoted, AnEn
 use Rattle.gier_env.specs.Standing.{standard_bindings}
 use Rattle.gier_flat.proofs.OrderRows.{Machine, object}
 use Rattle.gier_flat.proofs.Setting.{Setting}
+use Rattle.gier_flat.proofs.LabelPlaces.{IsPlaced}
 use Rattle.gier_flat.proofs.StackRelation.{Known, sort, Shows}
 use Rattle.gier_flat.proofs.Orders.{to}
 use Rattle.gier_flat.proofs.NewActivation.{NewActivation, Inner, opened_level}
@@ -66,7 +67,7 @@ module _ (setting : Setting) (input : List ℕ) (steps : ℕ) (ls : List LabelPl
   abbrev pub K1 : Known
   K1 = Inner setting.text setting.size NothingKnown m0 m1 s0 s1 (env xs) (places ls) 0 (λ e q. ⊥) NewLabel
 
-  module _ (few : length xs < 2 ^ 24) (above : (e : ℕ) → e < length xs → 0 < address_of setting.text e 0) (below : (e : ℕ) → e < length xs → address_of setting.text e 0 < length (object setting.text)) where
+  module _ (good : (e : ℕ) → e < length xs → IsPlaced setting e) where
     fresh_is : s1.fresh ≡ length xs
     fresh_is =
         let same_fresh = (labels_same (own xs) (with_most (3 + need) s0)).fresh in
@@ -84,7 +85,8 @@ module _ (setting : Setting) (input : List ℕ) (steps : ℕ) (ls : List LabelPl
     in_step (l ∷ ls) address number n f g =
         let lt : n < length xs = omega (arith, g) in
         let short = setting.short in
-        let low = below n lt in
+        let is = good n lt in
+        let low = is.below in
         let here : Shows setting.text K1 m1.regs.words s1.store 0 Label (record { what = plain Label; level = 1; address = n }) (Some (AnEntity n)) = (
           0,
           0,
@@ -94,9 +96,9 @@ module _ (setting : Setting) (input : List ℕ) (steps : ℕ) (ls : List LabelPl
           ap sort (label_made 0 xs (with_most (3 + need) s0) n n lt (omega arith)),
           omega arith,
           omega arith,
-          omega (arith, lt, few),
+          is.small,
           omega (arith, low, short),
-          above n lt,
+          is.above,
         ) in (
           refl,
           subst (λ k. Shows setting.text K1 m1.regs.words s1.store 0 Label (record { what = plain Label; level = 1; address = k }) (Some (AnEntity n))) (sym f) here,
@@ -133,7 +135,7 @@ module _ (setting : Setting) (input : List ℕ) (steps : ℕ) (ls : List LabelPl
           cell_is = λ e q i. absurd i;
           one_label = λ e a b i j. i.1 ∙ sym j.1;
           fresh_label = λ e a i. (omega arith, omega (arith, fresh_is, i.0));
-          label_ends = λ e a i. (subst (λ a. 0 < a) (sym i.1) (above e i.0), subst (λ a. a < length (object setting.text)) (sym i.1) (below e i.0));
+          label_ends = λ e a i. (subst (λ a. 0 < a) (sym i.1) (good e i.0).above, subst (λ a. a < length (object setting.text)) (sym i.1) (good e i.0).below);
           kept = λ n lt. absurd (omega (arith, lt));
           fresh = omega arith;
           shows = shows;

@@ -1,5 +1,5 @@
 -- Behind the code of labels and of designational expressions stands what follows it.
-use Rattle.std.proofs.Common.{◌≡◌, ℕ, ◌+◌, List, [], ◌∷◌, sym, subst, arith}
+use Rattle.std.proofs.Common.{◌≡◌, ℕ, List, [], ◌∷◌, sym, subst, arith}
 use Rattle.gier_symbol.specs.declared.symbol.Symbol.{Symbol}
 use Rattle.gier_order.specs.declared.operation.Operation.TheVariants as op
 use Rattle.gier_tree.specs.declared.kind.Kind.{Kind}

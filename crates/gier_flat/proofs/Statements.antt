@@ -4,7 +4,6 @@ use Rattle.std.specs.Prelude.{◌^◌, max, if◌then◌else◌, ⊤}
 use Rattle.std.proofs.lemmas.Bool.{lt-ltb}
 use Rattle.std.proofs.lemmas.List.{append-nil}
 use Rattle.gier_word.specs.Standard.{integer_text, line_text}
-use Rattle.gier_symbol.specs.declared.symbol.Symbol.{Symbol}
 use Rattle.gier_order.specs.declared.operation.Operation.TheVariants as op
 use Rattle.gier_order.specs.Flat.Row.{Regs, On, Row, plain, behind_ref, behind_bytes}
 use Rattle.gier_order.specs.Flat.Rows as rows

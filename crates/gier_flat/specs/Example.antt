@@ -1,11 +1,13 @@
--- A program for which the law's premises hold: a label, a conditional statement with a go to it, and what is printed.
-use Rattle.std.specs.Prelude.{[], ◌∷◌}
+-- Programs for which the law's premises hold: a label, a conditional statement with a go to it, and what is printed; and blocks, one
+-- within the other, with a go to out of the inner one.
+use Rattle.std.specs.Prelude.{ℕ, [], ◌∷◌}
 use Rattle.gier_tree.specs.SpellExamples.{at}
 use Rattle.gier_tree.specs.Trees.{Add, LessThan, OneSimple, OneImplication, OneDisjunction, OneConjunction, OneNegation}
 use Rattle.gier_tree.specs.Trees.{OneRelation, OneArithmetic, Compared, OneTerm, Summed, OneFactor, OnePrimary, Numeral}
 use Rattle.gier_tree.specs.Trees.{OneCall, Alone, WithActuals, OneExpr, NoActuals, only, MkCompound, NoStatements}
 use Rattle.gier_tree.specs.Trees.{MoreStatements, OneUnconditional, OneConditional, MkUnconditional, Jump, CallStatement}
-use Rattle.gier_tree.specs.Trees.{IfElse, Expr, Statement, Program, MkProgram}
+use Rattle.gier_tree.specs.Trees.{IfThen, IfElse, OneName, Assign, OneGroup, MkBlock, DeclareType, MkNames, IntegerType, BooleanType}
+use Rattle.gier_tree.specs.Trees.{NoDeclarations, Primary, Relation, Term, Expr, Statement, Program, MkProgram}
 
 -- 1 + 2, and 2 < 1
 abbrev pub sum : Expr
@@ -30,3 +32,53 @@ choosing =
 
 abbrev pub example : Program
 example = MkProgram [] (MkCompound 1 printing (MoreStatements 2 choosing NoStatements) 5) 5
+
+abbrev pub variable : (number line : ℕ) → Primary
+variable number line = OneCall (Alone (at number line))
+
+abbrev pub term : Primary → Term
+term q = OneFactor (OnePrimary q)
+
+abbrev pub relation : Relation → Expr
+relation r = OneSimple (OneImplication (OneDisjunction (OneConjunction (OneNegation (OneRelation r)))))
+
+-- i := 1, b := i < 3, i := i + 1
+abbrev pub assign : (number line : ℕ) → Expr → Statement
+assign number line e = OneUnconditional (MkUnconditional [] (Assign (record { left = OneName (at number line); becomes = line }) [] e))
+
+abbrev pub beginning : Statement
+beginning = assign 9 2 (only (Numeral 1 2))
+
+abbrev pub asking : Statement
+asking = assign 10 4 (relation (Compared (OneTerm (term (variable 9 4))) LessThan 4 (OneTerm (term (Numeral 3 4)))))
+
+abbrev pub counting : Statement
+counting = assign 9 5 (relation (OneArithmetic (Summed (OneTerm (term (variable 9 5))) Add 5 (term (Numeral 1 5)))))
+
+-- _goto again
+abbrev pub going : Statement
+going = OneUnconditional (MkUnconditional [] (Jump 5 (only (variable 8 5))))
+
+-- _if b _then _begin i := i + 1; _goto again _end
+abbrev pub deciding : Statement
+deciding =
+    OneConditional (IfThen [] 5 (only (variable 10 5)) 5 (MkUnconditional [] (OneGroup (MkCompound 5 counting
+    (MoreStatements 5 going NoStatements) 5))))
+
+-- outinteger(i)
+abbrev pub telling : Statement
+telling =
+    OneUnconditional (MkUnconditional [] (CallStatement (WithActuals (at 0 6) 6 (OneExpr (only (variable 9 6))) NoActuals 6)))
+
+-- again: _begin _Boolean b, c; b := i < 3; .. _end
+abbrev pub inner_block : Statement
+inner_block =
+    OneUnconditional (MkUnconditional (record { name = at 8 3; colon = 3 } ∷ []) (OneGroup (MkBlock 3
+    (DeclareType (record { type = BooleanType; line = 3 }) (MkNames (at 10 3) (record { comma = 3; name = at 11 3 } ∷ []))) 3
+    NoDeclarations asking (MoreStatements 4 deciding (MoreStatements 5 telling NoStatements)) 6)))
+
+-- _begin _integer i; i := 1; again: .. _end
+abbrev pub nested : Program
+nested =
+    MkProgram [] (MkBlock 1 (DeclareType (record { type = IntegerType; line = 1 }) (MkNames (at 9 1) [])) 1 NoDeclarations
+    beginning (MoreStatements 2 inner_block NoStatements) 6) 6

@@ -1,6 +1,6 @@
 // The law on the flat run, for the part of the language for which it is proved so far.
 ghost use Rattle.gier_tree.specs.Hoist.{hoist};
-ghost use Rattle.gier_flat.specs.Example.{example};
+ghost use Rattle.gier_flat.specs.Example.{example, nested};
 ghost use Rattle.gier_flat.specs.Law.{RunIsMeaning};
 ghost use Rattle.gier_flat.specs.Premises.{Premises};
 
@@ -14,4 +14,9 @@ pub fn law_flat()
 /// The premises hold of a program with a label, a conditional statement with a go to it, and printing.
 pub fn law_flat_example()
     ensures { Premises (hoist example) }
+{}
+
+/// They hold of a program with a block in a block, variables of both, and a go to that leaves the inner block.
+pub fn law_flat_nested()
+    ensures { Premises (hoist nested) }
 {}
