@@ -1,10 +1,10 @@
 -- Conditional expressions, and expressions of all rules.
-use Rattle.std.proofs.Common.{◌≡◌, ℕ, suc, ◌+◌, ◌<◌, ◌≤◌, Bool, true, false, ℤ, pos, List, length, Option, Some, None, refl, sym, ap, ◌∙◌, subst, arith}
-use Rattle.std.specs.Prelude.{◌==◌, ◌^◌, not, nat_lt, max, if◌then◌else◌}
+use Rattle.std.proofs.Common.{◌≡◌, ℕ, suc, ◌+◌, ◌<◌, ◌≤◌, Bool, true, false, ℤ, pos, List, [], ◌∷◌, length, Option, Some, None, refl, sym, ap, ◌∙◌, subst, arith}
+use Rattle.std.specs.Prelude.{Ok, ◌==◌, ◌^◌, not, nat_lt, max, if◌then◌else◌}
 use Rattle.std.proofs.lemmas.Bool.{ltb-true}
 use Rattle.std.proofs.lemmas.List.{append-nil}
 use Rattle.gier_word.specs.Words.{int_of_word}
-use Rattle.gier_word.specs.Operations.{negative_of}
+use Rattle.gier_word.specs.Operations.{negative_of, modulus_of, sign_of}
 use Rattle.gier_symbol.specs.declared.symbol.Symbol.{Symbol}
 use Rattle.gier_symbol.specs.declared.tag.Tag.TheVariants.{Word}
 use Rattle.gier_symbol.specs.ByTag.{sym as tagged}
@@ -15,14 +15,15 @@ use Rattle.gier_order.specs.Flat.Rows as rows
 use Rattle.gier_order.specs.Flat.Rows.{effect, jumps, on, goes}
 use Rattle.gier_order.specs.Flat.Run.{with_row}
 use Rattle.gier_tree.specs.declared.kind.Kind.{Kind}
-use Rattle.gier_tree.specs.declared.kind.Kind.TheVariants.{IntegerVariable, BooleanVariable, IntegerValue, BooleanValue}
+use Rattle.gier_tree.specs.declared.kind.Kind.TheVariants.{IntegerVariable, BooleanVariable, IntegerValue, BooleanValue, Abs, Sign}
 use Rattle.gier_tree.specs.Orders as code
 use Rattle.gier_tree.specs.Orders.{Following, Code, order, with_label, define, data_word, new, first_label, number_of, behind_word}
 use Rattle.gier_tree.specs.Object.{address_of}
-use Rattle.gier_tree.specs.Coded.{scopes_of, both, sign_code, number_code, choice, code_expr, code_simple, code_implication, code_disjunction, code_conjunction, code_negation, code_relation, code_arithmetic, code_term, code_factor, code_primary, code_call, alone_code, adding_operation, multiplying_operation, comparing_operation}
-use Rattle.gier_tree.specs.Need.{need_expr, need_simple, need_implication, need_disjunction, need_conjunction, need_negation, need_relation, need_arithmetic, need_term, need_factor, need_primary, need_call}
+use Rattle.gier_tree.specs.Coded.{scopes_of, both, sign_code, number_code, choice, code_expr, code_simple, code_implication, code_disjunction, code_conjunction, code_negation, code_relation, code_arithmetic, code_term, code_factor, code_primary, code_call, call_code, part_of, alone_code, adding_operation, multiplying_operation, comparing_operation}
+use Rattle.gier_tree.specs.Need.{need_expr, need_simple, need_implication, need_disjunction, need_conjunction, need_negation, need_relation, need_arithmetic, need_term, need_factor, need_primary, need_call, call_need, first_need}
 use Rattle.gier_tree.specs.Places.{Placed, Places}
 use Rattle.gier_tree.specs.Trees as tree
+use Rattle.gier_tree.specs.Trees.{OneExpr, NoActuals}
 use Rattle.gier_tree.specs.Trees.{Adding, Add, Subtract, Multiply, Divide, LessThan, AtMost, EqualTo, AtLeast, MoreThan, Unequal, Expr, OneSimple, IfExpr, Simple, OneImplication, Equivalent, Implication, OneDisjunction, Disjunction, OneConjunction, Either, Conjunction, OneNegation, Both, Negation, OneRelation, Negated, Relation, OneArithmetic, Compared, Arithmetic, OneTerm, Signed, Summed, Term, OneFactor, Multiplied, Factor, OnePrimary, Raised, Primary, Numeral, Logical, Bracketed, OneCall, OneElement, Call, Alone, WithActuals}
 use Rattle.gier_meaning.specs.Tree.{Operator, Adds, Multiplies, Raises, Compares, Ands, Ors, Implies, Equals, Signs, Nots}
 use Rattle.gier_meaning.specs.Operators as meaning
@@ -34,7 +35,12 @@ use Rattle.gier_meaning.specs.Standard.{value_or_alarm}
 use Rattle.gier_agree.specs.declared.kind.Kind.{Kind as Fitting}
 use Rattle.gier_agree.specs.declared.kind.Kind.TheVariants.{Integer, Boolean}
 use Rattle.std.specs.Prelude.{slice_get}
-use Rattle.gier_meaning.specs.Outcome.{Outcome, Gives, then_do, either}
+use Rattle.gier_meaning.specs.Tree as plain_tree
+use Rattle.gier_meaning.specs.Standard.{standard_of}
+use Rattle.gier_env.specs.Tasks.{AValue}
+use Rattle.gier_env.specs.Calls.{standard_passed, call as call_of}
+use Rattle.gier_env.specs.Expressions.{handed}
+use Rattle.gier_meaning.specs.Outcome.{Outcome, Gives, Goes, Stops, then_do, either}
 use Rattle.gier_env.specs.Env.{Env, Denoted, AnEntity, AProcedure, AFormalProcedure, AText, AStandard, AnActual, found}
 use Rattle.gier_env.specs.Tasks.{Next}
 use Rattle.gier_env.specs.Closures.{Closure}
@@ -45,10 +51,12 @@ use Rattle.gier_flat.proofs.OrderRows.{Machine, object, Reach, onward}
 use Rattle.gier_flat.proofs.StackRelation.{Known, IsVariable, Shows, RunInvariant, StateAfter, RefinesOutcome, Behind, here_after}
 use Rattle.gier_flat.proofs.Composition.{follow_then, follow_on, onwards, wants, Stays, stays_after}
 use Rattle.gier_flat.proofs.Numbers.{short, same_truth}
+use Rattle.gier_flat.proofs.StandardFunctions.{modulus_settles, sign_settles}
 use Rattle.gier_flat.proofs.Values.{Shown, Same, Runs, both_runs, after_runs, gives_now, nots, then_same, takes}
 use Rattle.gier_flat.proofs.Orders.{to, AtLabelledOrder, AtOrder, placed, defined, labelled_far, labelled_next, labelled_row_of, goes_by, far, order_next, needed, row_of, on_row, jump_row, negates, operation}
-use Rattle.gier_flat.specs.Fair.{IsCell, FairExpr, FairSimple, FairImplication, FairDisjunction, FairConjunction, FairNegation, FairRelation, FairArithmetic, FairTerm, FairFactor, FairPrimary, FairCall}
-use Rattle.gier_flat.proofs.Continuations.{Passes, passes_expr, passes_simple}
+use Rattle.gier_flat.specs.Fair.{IsCell, IsFunction, FairExpr, FairSimple, FairImplication, FairDisjunction, FairConjunction, FairNegation, FairRelation, FairArithmetic, FairTerm, FairFactor, FairPrimary, FairCall}
+use Rattle.gier_flat.proofs.AllPasses.{expr_passes}
+use Rattle.gier_flat.proofs.Continuations.{Passes}
 use Rattle.std.proofs.lemmas.Bool.{lt-ltb}
 use Rattle.gier_flat.proofs.Setting.{Setting}
 
@@ -280,7 +288,38 @@ module _ (setting : Setting) where
 
       signed_runs : (o : tree.Adding) (line level na : ℕ) (a : Code) (va : State Closure → Outcome Closure ℤ) → Gets na (a level) va → Gets na (sign_code o line a level) (λ s. then_do (va s) (λ x s1. value_or_alarm (apply_prefix (Signs o) x) line lives s1))
       signed_runs Add line level na a va ra = λ K w m s st go le h at here. then_same setting.text setting.size setting.ends setting.small n env p lives K m s (Behind setting.text setting.size go) m.regs.base m.regs.top (va s) (ra K w m s st go le h at here)
-      signed_runs Subtract line level na a va ra = after_runs setting.text setting.size setting.ends setting.small n env p lives op.Neg (λ x. negative_of x) line level na a va refl (λ e. absurd (omega (arith, e))) (λ m next. negates setting.text setting.size setting.ends m next) ra
+      signed_runs Subtract line level na a va ra = after_runs setting.text setting.size setting.ends setting.small n env p lives op.Neg 0 (omega arith) (λ x. negative_of x) line level na a va refl (λ e. absurd (omega (arith, e))) (λ m next. negates setting.text setting.size setting.ends m next) ra
+
+      -- ---- the standard functions
+
+      abbrev Called_so : (d : Option Denoted) (e : tree.Expr) (line : ℕ) → State Closure → Outcome Closure ℤ
+      Called_so d e line s = call_of setting.size next d (plain_tree.MoreExprs (expr e) plain_tree.NoExprs) env (λ kinds s1. handed setting.size next kinds (plain_tree.MoreExprs (expr e) plain_tree.NoExprs) env line lives s1) line lives s
+
+      one_value : (kind : Kind) (line : ℕ) (r : Outcome Closure ℤ)
+          → then_do (then_do (then_do r (λ a s2. Gives (AValue a) s2)) (λ passed s1. Gives (passed ∷ []) s1)) (λ passed s1. standard_passed kind passed line lives s1)
+          ≡ then_do r (λ a s1. standard_of kind a line lives s1)
+      one_value kind line (Gives a s1) = refl
+      one_value kind line (Goes k s1) = refl
+      one_value kind line (Stops why stop s1) = refl
+
+      function_runs : (kind : Kind) (count : ℕ) (formals : List Kind) (l a : ℕ) (d : Option Denoted) (e : tree.Expr) (line level : ℕ) → IsFunction kind → ((K : Known) (w need : ℕ) (m : Machine) (s : State Closure) → RunInvariant setting.text setting.size K w need env p m s lives → (b : ℕ) → K.frame env p b → Shows setting.text K m.regs.words s.store b kind (record { what = record { kind = kind; count = count; formals = formals }; level = l; address = a }) d)
+          → Gets (need_expr (scopes_of p) e) (code_expr p e level) (λ s. value setting.size next (expr e) env lives s) → Gets (need_expr (scopes_of p) e) (call_code (record { what = record { kind = kind; count = count; formals = formals }; level = l; address = a }) line (part_of p (OneExpr e) ∷ []) level) (λ s. Called_so d e line s)
+      function_runs Abs count formals l a d e line level f shows re K w m s st go le h at here =
+          let is_standard : d ≡ Some (AStandard Abs) = shows K w (need_expr (scopes_of p) e) m s h h.sees.0 h.sees.3 in
+          subst (λ d. RefinesOutcome setting.text setting.size ℤ K K.label m s (Behind setting.text setting.size go) m.regs.base m.regs.top (Same setting.text setting.size setting.ends setting.small K) (Called_so d e line s)) (sym is_standard)
+          (subst (λ u. RefinesOutcome setting.text setting.size ℤ K K.label m s (Behind setting.text setting.size go) m.regs.base m.regs.top (Same setting.text setting.size setting.ends setting.small K) u) (sym (one_value Abs line (value setting.size next (expr e) env lives s)))
+          (after_runs setting.text setting.size setting.ends setting.small n env p lives op.Lib 7 (omega arith) (λ x. modulus_of x) line level (need_expr (scopes_of p) e) (code_expr p e) (λ s. value setting.size next (expr e) env lives s) refl (λ e. absurd (omega (arith, e))) (λ m next. modulus_settles setting.text setting.size setting.ends m next) re K w m s st go le h at here))
+      function_runs Sign count formals l a d e line level f shows re K w m s st go le h at here =
+          let is_standard : d ≡ Some (AStandard Sign) = shows K w (need_expr (scopes_of p) e) m s h h.sees.0 h.sees.3 in
+          subst (λ d. RefinesOutcome setting.text setting.size ℤ K K.label m s (Behind setting.text setting.size go) m.regs.base m.regs.top (Same setting.text setting.size setting.ends setting.small K) (Called_so d e line s)) (sym is_standard)
+          (subst (λ u. RefinesOutcome setting.text setting.size ℤ K K.label m s (Behind setting.text setting.size go) m.regs.base m.regs.top (Same setting.text setting.size setting.ends setting.small K) u) (sym (one_value Sign line (value setting.size next (expr e) env lives s)))
+          (after_runs setting.text setting.size setting.ends setting.small n env p lives op.Lib 8 (omega arith) (λ x. Ok (sign_of x)) line level (need_expr (scopes_of p) e) (code_expr p e) (λ s. value setting.size next (expr e) env lives s) refl (λ e. absurd (omega (arith, e))) (λ m next. sign_settles setting.text setting.size setting.ends m next) re K w m s st go le h at here))
+      function_runs kind count formals l a d e line level f shows re K w m s st go le h at here = absurd f
+
+      need_given : (kind : Kind) (formals : List Kind) (need : ℕ) → IsFunction kind → need ≤ call_need kind 1 (max (first_need formals 0 need) 0) (max need 0)
+      need_given Abs formals need f = omega arith
+      need_given Sign formals need f = omega arith
+      need_given kind formals need f = absurd f
 
       mutual
         pub expr_runs : (e : tree.Expr) → FairExpr p e → (level : ℕ) → Gets (need_expr (scopes_of p) e) (code_expr p e level) (λ s. value setting.size next (expr e) env lives s)
@@ -288,7 +327,7 @@ module _ (setting : Setting) where
         expr_runs (IfExpr l c m s k e) f level =
             choice_runs ℤ (Same setting.text setting.size setting.ends setting.small) l level (need_expr (scopes_of p) c) (need_simple (scopes_of p) s) (need_expr (scopes_of p) e) (code_expr p c) (code_simple p s) (code_expr p e)
             (λ x. value setting.size next (expr c) env lives x) (λ x. value setting.size next (simple s) env lives x) (λ x. value setting.size next (expr e) env lives x)
-            (passes_simple setting.text setting.size setting.ends p s f.1 level) (passes_expr setting.text setting.size setting.ends p e f.2 level) same_r
+            (expr_passes setting.text setting.size setting.ends p (OneSimple s) level) (expr_passes setting.text setting.size setting.ends p e level) same_r
             (expr_runs c f.0 level) (simple_runs s f.1 level) (expr_runs e f.2 level)
 
         pub simple_runs : (e : Simple) → FairSimple p e → (level : ℕ) → Gets (need_simple (scopes_of p) e) (code_simple p e level) (λ s. value setting.size next (simple e) env lives s)
@@ -309,7 +348,7 @@ module _ (setting : Setting) where
 
         negation_runs : (e : Negation) → FairNegation p e → (level : ℕ) → Gets (need_negation (scopes_of p) e) (code_negation p e level) (λ s. value setting.size next (negation e) env lives s)
         negation_runs (OneRelation r) f level = relation_runs r f level
-        negation_runs (Negated l r) f level = after_runs setting.text setting.size setting.ends setting.small n env p lives op.Not (λ x. apply_prefix Nots x) l level (need_relation (scopes_of p) r) (code_relation p r) (λ x. value setting.size next (relation r) env lives x) refl (λ e. absurd (omega (arith, e))) (λ m next. nots setting.text setting.size setting.ends setting.small n env p lives m next) (relation_runs r f level)
+        negation_runs (Negated l r) f level = after_runs setting.text setting.size setting.ends setting.small n env p lives op.Not 0 (omega arith) (λ x. apply_prefix Nots x) l level (need_relation (scopes_of p) r) (code_relation p r) (λ x. value setting.size next (relation r) env lives x) refl (λ e. absurd (omega (arith, e))) (λ m next. nots setting.text setting.size setting.ends setting.small n env p lives m next) (relation_runs r f level)
 
         relation_runs : (e : Relation) → FairRelation p e → (level : ℕ) → Gets (need_relation (scopes_of p) e) (code_relation p e level) (λ s. value setting.size next (relation e) env lives s)
         relation_runs (OneArithmetic a) f level = arithmetic_runs a f level
@@ -338,4 +377,7 @@ module _ (setting : Setting) where
 
         call_runs : (e : Call) → FairCall p e → (level : ℕ) → Gets (need_call (scopes_of p) e) (code_call p e level) (λ s. value setting.size next (call e) env lives s)
         call_runs (Alone x) f level = cell_runs (p x.number).what.kind (p x.number).what.count (p x.number).what.formals (p x.number).level (p x.number).address (found env x.number) x.line level f (λ K w need m s h b i. h.frames env p b i x.number)
+        call_runs (WithActuals x l (OneExpr e) NoActuals m) f level = λ K w m1 s st go le h at here.
+            function_runs (p x.number).what.kind (p x.number).what.count (p x.number).what.formals (p x.number).level (p x.number).address (found env x.number) e x.line level f.0 (λ K w need m s h b i. h.frames env p b i x.number) (expr_runs e f.1 level) K w m1 s st go le
+            (wants setting.text setting.size K w (need_call (scopes_of p) (WithActuals x l (OneExpr e) NoActuals m)) (need_expr (scopes_of p) e) env p m1 s lives (need_given (p x.number).what.kind (p x.number).what.formals (need_expr (scopes_of p) e) f.0) h) at here
         call_runs (WithActuals x l a more m) f level = absurd f

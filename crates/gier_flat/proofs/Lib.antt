@@ -9,6 +9,7 @@ mod Orders
 mod StopReport
 mod Continuations
 mod Values
+mod StandardFunctions
 mod Expressions
 mod StatementContinuations
 mod LeftParts

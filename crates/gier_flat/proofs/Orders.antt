@@ -191,7 +191,7 @@ module _ (text : List Symbol) (size : ℕ) (ends : HasStop text) where
     alarm_row : (spoil : Spoil) → answered (object text) size m (Err spoil) ≡ plain (Ends (Alarmed (alarm_of spoil)) m)
     alarm_row spoil = needed _ _ next_is
 
-    held_settles : (z : ℤ) → Settled (answered (object text) size m (in_range_or_spill z)) (in_range_or_spill z)
+    pub held_settles : (z : ℤ) → Settled (answered (object text) size m (in_range_or_spill z)) (in_range_or_spill z)
     held_settles z = by (is_in_range z) refl
       where
         by : (t : Bool) → is_in_range z ≡ t → Settled (answered (object text) size m (if t then Ok z else Err Spill)) (if t then Ok z else Err Spill)
@@ -216,7 +216,7 @@ module _ (text : List Symbol) (size : ℕ) (ends : HasStop text) where
     pub truth_settles : (b c : Bool) → b ≡ c → Settled (gives (object text) size m (rows.truth b)) (Ok (meaning.truth c))
     truth_settles b c e = (rows.truth b, truth_word b ∙ ap meaning.truth e, on_row (record m { r = rows.truth b }))
 
-    settled_by : (r r1 : Row) (x : Result ℤ Spoil) → r ≡ r1 → Settled r1 x → Settled r x
+    pub settled_by : (r r1 : Row) (x : Result ℤ Spoil) → r ≡ r1 → Settled r1 x → Settled r x
     settled_by r r1 x e h = subst (λ u. Settled u x) (sym e) h
 
     -- the two words

@@ -32,12 +32,11 @@ use Rattle.gier_flat.proofs.Values.{Shown}
 use Rattle.gier_flat.proofs.Assignments.{NothingShown}
 use Rattle.gier_flat.proofs.NextRuns.{RunsStatement, AreWithin, NextRuns}
 use Rattle.gier_flat.proofs.Statements.{labels_runs, statement_runs, statements_run}
-use Rattle.gier_flat.proofs.Continuations.{passes_expr}
 use Rattle.gier_flat.proofs.Orders.{placed}
 use Rattle.gier_flat.proofs.Expressions.{jump_reach}
 use Rattle.gier_env.specs.Statements.{has, have, is_label, resume, resume_all}
 use Rattle.std.proofs.lemmas.Bool.{eqb-true}
-use Rattle.gier_flat.proofs.AllPasses.{unconditional_passes, statement_passes}
+use Rattle.gier_flat.proofs.AllPasses.{expr_passes, unconditional_passes, statement_passes}
 use Rattle.gier_flat.proofs.Continuations.{Passes}
 use Rattle.gier_flat.proofs.Expressions.{there, there_after}
 use Rattle.gier_flat.specs.Fair.{FairLabels, FairStatement, FairStatements, FairUnconditional, FairBasic, FairConditional}
@@ -225,12 +224,12 @@ module _ (setting : Setting) where
             let whole : Conditional = IfThen [] l e m u in
             resume_labels ls f.0 (if_code l (code_expr p e) (code_unconditional p at u)) level (need_conditional (scopes_of p) whole) (plain_tree.If (expr e) (unconditional u))
             (statement_runs setting n env p lives next deeper at below (OneConditional whole) (tt, f.1, f.2) level)
-            (resume_if l level (need_expr (scopes_of p) e) (need_unconditional (scopes_of p) u) (code_expr p e) (code_unconditional p at u) (has label env (unconditional u)) (λ st. resume setting.size next label (unconditional u) env lives st) (passes_expr setting.text setting.size setting.ends p e f.1 level) (resume_unconditional at below u f.2 level))
+            (resume_if l level (need_expr (scopes_of p) e) (need_unconditional (scopes_of p) u) (code_expr p e) (code_unconditional p at u) (has label env (unconditional u)) (λ st. resume setting.size next label (unconditional u) env lives st) (expr_passes setting.text setting.size setting.ends p e level) (resume_unconditional at below u f.2 level))
         resume_conditional at below (IfElse ls l e m u k s) f level =
             let at1 : Where = further at (numbers_unconditional u) (owns_in_unconditional u) in
             let whole : Conditional = IfElse [] l e m u k s in
             resume_labels ls f.0 (if_else_code l (code_expr p e) (code_unconditional p at u) (code_statement p at1 s)) level (need_conditional (scopes_of p) whole) (plain_tree.IfElse (expr e) (unconditional u) (statement s))
             (statement_runs setting n env p lives next deeper at below (OneConditional whole) (tt, f.1, f.2, f.3) level)
             (resume_choice l level (need_expr (scopes_of p) e) (need_unconditional (scopes_of p) u) (need_statement (scopes_of p) s) (code_expr p e) (code_unconditional p at u) (code_statement p at1 s) (has label env (unconditional u)) (has label env (statement s)) (λ st. resume setting.size next label (unconditional u) env lives st) (λ st. resume setting.size next label (statement s) env lives st)
-            (passes_expr setting.text setting.size setting.ends p e f.1 level) (unconditional_passes setting.text setting.size setting.ends p at u level) (statement_passes setting.text setting.size setting.ends p at1 s level) (resume_unconditional at below u f.2 level) (resume_statement at1 below s f.3 level))
+            (expr_passes setting.text setting.size setting.ends p e level) (unconditional_passes setting.text setting.size setting.ends p at u level) (statement_passes setting.text setting.size setting.ends p at1 s level) (resume_unconditional at below u f.2 level) (resume_statement at1 below s f.3 level))
         resume_conditional at below (IfLoop ls l e m x) f level = absurd f

@@ -11,7 +11,8 @@ use Rattle.gier_tree.specs.Trees.{Expr, OneSimple, IfExpr, Simple, OneImplicatio
 use Rattle.gier_tree.specs.Words.{HasStop}
 use Rattle.gier_flat.specs.Fair.{FairTarget, FairTargetSimple, FairTargetPrimary}
 use Rattle.gier_flat.proofs.Orders.{defined}
-use Rattle.gier_flat.proofs.Continuations.{Passes, passes_labelled, passes_choice, passes_expr}
+use Rattle.gier_flat.proofs.AllPasses.{expr_passes}
+use Rattle.gier_flat.proofs.Continuations.{Passes, passes_labelled, passes_choice}
 
 module _ (text : List Symbol) (size : ℕ) (ends : HasStop text) where
   passes_nothing : Passes text size ends (λ st go. go st)
@@ -28,7 +29,7 @@ module _ (text : List Symbol) (size : ℕ) (ends : HasStop text) where
     mutual
       pub passes_target : (e : Expr) → FairTarget p e → (level w : ℕ) → Passes text size ends (code_label p e level w)
       passes_target (OneSimple s) f = passes_target_simple s f
-      passes_target (IfExpr l c m s n e) f = passes_choice text size ends l (code_expr p c) (code_simple_label p s) (code_label p e) (passes_expr text size ends p c f.0) (passes_target_simple s f.1) (passes_target e f.2)
+      passes_target (IfExpr l c m s n e) f = passes_choice text size ends l (code_expr p c) (code_simple_label p s) (code_label p e) (expr_passes text size ends p c) (passes_target_simple s f.1) (passes_target e f.2)
 
       pub passes_target_simple : (s : Simple) → FairTargetSimple p s → (level w : ℕ) → Passes text size ends (code_simple_label p s level w)
       passes_target_simple (OneImplication (OneDisjunction (OneConjunction (OneNegation (OneRelation (OneArithmetic (OneTerm (OneFactor (OnePrimary q))))))))) f = passes_target_primary q f

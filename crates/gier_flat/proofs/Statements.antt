@@ -1,11 +1,18 @@
 -- Statements: printing, sequences, labels and conditional statements.
 use Rattle.std.proofs.Common.{◌≡◌, ℕ, suc, ◌+◌, ◌<◌, ◌≤◌, Bool, true, false, ℤ, List, [], ◌∷◌, ◌++◌, length, Option, Some, refl, sym, ap, ◌∙◌, subst, arith}
-use Rattle.std.specs.Prelude.{◌^◌, max, if◌then◌else◌, ⊤}
+use Rattle.std.specs.Prelude.{◌^◌, Result, Ok, Err, max, if◌then◌else◌, ⊤}
 use Rattle.std.proofs.lemmas.Bool.{lt-ltb}
 use Rattle.std.proofs.lemmas.List.{append-nil}
-use Rattle.gier_word.specs.Standard.{integer_text, line_text}
+use Rattle.gier_word.specs.declared.alarm.Alarm.{Alarm}
+use Rattle.gier_word.specs.Standard.{integer_text, line_text, character_text}
+use Rattle.gier_meaning.specs.Standard.{prints}
+use Rattle.gier_order.specs.Flat.Row as row
+use Rattle.gier_flat.proofs.StopReport.{stops_here}
+use Rattle.gier_flat.proofs.Values.{line_here}
+use Rattle.gier_flat.proofs.OrderRows.{stopped}
+use Rattle.gier_symbol.specs.declared.symbol.Symbol.{Symbol}
 use Rattle.gier_order.specs.declared.operation.Operation.TheVariants as op
-use Rattle.gier_order.specs.Flat.Row.{Regs, On, Row, plain, behind_ref, behind_bytes}
+use Rattle.gier_order.specs.Flat.Row.{Regs, On, Ends, Row, plain, behind_ref, behind_bytes}
 use Rattle.gier_order.specs.Flat.Rows as rows
 use Rattle.gier_order.specs.Flat.Rows.{effect, from_base, word_at, gives, goes, stops, pays, on, local}
 use Rattle.gier_order.specs.Flat.Run.{with_row}
@@ -22,7 +29,7 @@ use Rattle.gier_meaning.specs.Plain.{expr}
 use Rattle.gier_meaning.specs.Tree.{Identifier}
 use Rattle.gier_meaning.specs.Live.{Live}
 use Rattle.gier_meaning.specs.State.{State}
-use Rattle.gier_meaning.specs.Outcome.{Outcome, Gives, Goes, Stops, Finished, Done, then_do}
+use Rattle.gier_meaning.specs.Outcome.{Outcome, Gives, Goes, Stops, Alarmed, Finished, Done, then_do}
 use Rattle.gier_env.specs.Env.{Env, Denoted, AStandard, found}
 use Rattle.gier_env.specs.Tasks.{Next}
 use Rattle.gier_env.specs.Closures.{Closure}
@@ -35,7 +42,7 @@ use Rattle.gier_flat.proofs.OrderRows.{Machine, object, Reach, onward}
 use Rattle.gier_flat.proofs.StackRelation.{Known, Shows, RunInvariant, RefinesOutcome, Behind, here_after}
 use Rattle.gier_flat.proofs.Composition.{follow_then, follow_on, onwards, wants}
 use Rattle.gier_flat.proofs.Orders.{to, AtOrder, far, row_of, order_next, labelled_next, on_row, needed}
-use Rattle.gier_flat.specs.Fair.{FairExpr, FairCalled}
+use Rattle.gier_flat.specs.Fair.{PrintsNumber, FairExpr, FairCalled}
 use Rattle.gier_flat.proofs.Values.{Same, Runs}
 use Rattle.gier_flat.proofs.Expressions.{expr_runs, choice_runs}
 use Rattle.gier_flat.proofs.Assignments.{NothingShown, assignment_runs}
@@ -57,7 +64,7 @@ use Rattle.gier_meaning.specs.Plain.{statement, statements, unconditional, basic
 use Rattle.gier_meaning.specs.Tree as plain_tree
 use Rattle.gier_env.specs.Statements.{run, run_all}
 use Rattle.gier_meaning.specs.State.{with_printed}
-use Rattle.gier_tree.specs.declared.kind.Kind.TheVariants.{OutInteger, OutCr}
+use Rattle.gier_tree.specs.declared.kind.Kind.TheVariants.{OutInteger, OutCr, OutChar}
 use Rattle.gier_tree.specs.Coded.{code_call, call_code, alone_code, part_of}
 use Rattle.gier_tree.specs.Need.{need_call}
 use Rattle.gier_meaning.specs.Plain.{call}
@@ -65,10 +72,6 @@ use Rattle.gier_meaning.specs.Operators as meaning
 use Rattle.gier_meaning.specs.Outcome.{either}
 use Rattle.gier_flat.proofs.Setting.{Setting}
 use Rattle.gier_flat.proofs.NextRuns.{RunsStatement, AreWithin, NextRuns}
-
-abbrev IsNotOutInteger : Kind → Type 0
-IsNotOutInteger OutInteger = ⊥
-IsNotOutInteger kind = ⊤
 
 abbrev IsNotOutCr : Kind → Type 0
 IsNotOutCr OutCr = ⊥
@@ -114,6 +117,20 @@ module _ (setting : Setting) where
           },
         )
 
+    -- `outchar`, which alarms for a number that is no byte
+    character_run : (x : Result (List ℕ) Alarm) (K : Known) (w need : ℕ) (m : Machine) (s : State Closure) (line : ℕ) (st : code.State) (go : Following) → RunInvariant setting.text setting.size K w need env p m s lives → At setting.text st (order op.Lib 0 4 line st go) → m.regs.place ≡ st.words → rows.procedure (object setting.text) setting.size m.regs 4 ≡ rows.prints_or_alarms (object setting.text) setting.size m.regs x → RefinesOutcome setting.text setting.size Finished K K.label m s (Behind setting.text setting.size go) m.regs.base m.regs.top (NothingShown setting K) (then_do (prints x line lives s) (λ z s1. Gives Done s1))
+    character_run (Ok bytes) K w need m s line st go h at here is = prints_run K w need m s 4 line bytes st go (omega arith) h at here is
+    character_run (Err alarm) K w need m s line st go h at here is =
+        let sd : AtOrder setting.text setting.size setting.ends m op.Lib 0 4 line st go = record { at = at; here = here; started = h.started; low = omega arith; small = omega arith; fields = refl; other = λ e. absurd (omega (arith, e)) } in
+        let next_is = far setting.text setting.size setting.ends m op.Lib 0 4 line st go sd in
+        let r : Row = behind_ref m.regs.place (plain (Ends (row.Alarmed alarm) m.regs)) in
+        let e : effect (object setting.text) setting.size m.regs op.Lib 0 4 ≡ plain (Ends (row.Alarmed alarm) m.regs) = needed _ _ (lt-ltb (m.regs.place + 1) (length (object setting.text)) next_is) ∙ is in (
+          1,
+          record { ending = row.Alarmed alarm; state = with_row m r m.regs },
+          stopped setting.text setting.size m r (row.Alarmed alarm) m.regs (row_of setting.text setting.size setting.ends m op.Lib 0 4 line st go sd ∙ ap (behind_ref m.regs.place) e) refl,
+          stops_here setting.text setting.size K w need env p m s s lives (row.Alarmed alarm) m.regs r (Alarmed alarm) line h refl refl refl refl refl refl h.started refl refl h.left refl refl refl (line_here setting.text setting.size setting.ends setting.small m op.Lib 0 4 line st go sd),
+        )
+
     module _ (next : Next) where
       -- `outinteger`
       printed_number : (e : Expr) (line : ℕ) (r : Outcome Closure ℤ)
@@ -123,7 +140,14 @@ module _ (setting : Setting) where
       printed_number e line (Goes k s1) = refl
       printed_number e line (Stops why stop s1) = refl
 
-      out_integer : (kind : Kind) (count : ℕ) (formals : List Kind) (l a : ℕ) (d : Option Denoted) (e : Expr) (line level : ℕ) → kind ≡ OutInteger → FairExpr p e → ((K : Known) (w need : ℕ) (m : Machine) (s : State Closure) → RunInvariant setting.text setting.size K w need env p m s lives → (b : ℕ) → K.frame env p b → Shows setting.text K m.regs.words s.store b kind (record { what = record { kind = kind; count = count; formals = formals }; level = l; address = a }) d)
+      printed_character : (e : Expr) (line : ℕ) (r : Outcome Closure ℤ)
+          → then_do (then_do (then_do (then_do r (λ a s2. Gives (AValue a) s2)) (λ passed s1. Gives (passed ∷ []) s1)) (λ passed s1. standard_passed OutChar passed line lives s1)) (λ v s1. Gives Done s1)
+          ≡ then_do r (λ a s1. then_do (prints (character_text a) line lives s1) (λ z s2. Gives Done s2))
+      printed_character e line (Gives a s1) = refl
+      printed_character e line (Goes k s1) = refl
+      printed_character e line (Stops why stop s1) = refl
+
+      out_integer : (kind : Kind) (count : ℕ) (formals : List Kind) (l a : ℕ) (d : Option Denoted) (e : Expr) (line level : ℕ) → PrintsNumber kind → FairExpr p e → ((K : Known) (w need : ℕ) (m : Machine) (s : State Closure) → RunInvariant setting.text setting.size K w need env p m s lives → (b : ℕ) → K.frame env p b → Shows setting.text K m.regs.words s.store b kind (record { what = record { kind = kind; count = count; formals = formals }; level = l; address = a }) d)
           → RunsStatement setting n env p lives (need_expr (scopes_of p) e) (call_code (record { what = record { kind = kind; count = count; formals = formals }; level = l; address = a }) line (part_of p (OneExpr e) ∷ []) level)
           (λ s. then_do (call_of setting.size next d (plain_tree.MoreExprs (expr e) plain_tree.NoExprs) env (λ kinds s1. handed setting.size next kinds (plain_tree.MoreExprs (expr e) plain_tree.NoExprs) env line lives s1) line lives s) (λ v s1. Gives Done s1))
       out_integer OutInteger count formals l a d e line level is f shows K w m s st go le h at here =
@@ -138,7 +162,19 @@ module _ (setting : Setting) where
           let h1 = here_after setting.text setting.size K w need env p m m1 s s1 lives h af in
           onwards setting.text setting.size Finished K K.label m m1 s s1 (Behind setting.text setting.size go) m.regs.base m.regs.top (NothingShown setting K) (Gives Done (with_printed (integer_text v) s1)) reach af
           (prints_run K w need m1 s1 1 line (integer_text v) goal.0 go (omega arith) h1 goal.1 goal.2 (ap (λ z. rows.prints (object setting.text) setting.size m1.regs (integer_text z)) shown)))))
-      out_integer kind count formals l a d e line level is f shows K w m s st go le h at here = absurd (subst IsNotOutInteger is tt)
+      out_integer OutChar count formals l a d e line level is f shows K w m s st go le h at here =
+          let need : ℕ = need_expr (scopes_of p) e in
+          let behind_e : Following = λ s1. order op.Lib 0 4 line s1 go in
+          let is_standard : d ≡ Some (AStandard OutChar) = shows K w need m s h h.sees.0 h.sees.3 in
+          subst (λ d. RefinesOutcome setting.text setting.size Finished K K.label m s (Behind setting.text setting.size go) m.regs.base m.regs.top (NothingShown setting K) (then_do (call_of setting.size next d (plain_tree.MoreExprs (expr e) plain_tree.NoExprs) env (λ kinds s1. handed setting.size next kinds (plain_tree.MoreExprs (expr e) plain_tree.NoExprs) env line lives s1) line lives s) (λ v s1. Gives Done s1))) (sym is_standard)
+          (subst (λ u. RefinesOutcome setting.text setting.size Finished K K.label m s (Behind setting.text setting.size go) m.regs.base m.regs.top (NothingShown setting K) u) (sym (printed_character e line (value setting.size next (expr e) env lives s)))
+          (follow_then setting.text setting.size ℤ Finished K K.label m s (Behind setting.text setting.size behind_e) m.regs.base m.regs.top (Same setting.text setting.size setting.ends setting.small K) (value setting.size next (expr e) env lives s) (Behind setting.text setting.size go) m.regs.base m.regs.top (NothingShown setting K) (λ v s1. then_do (prints (character_text v) line lives s1) (λ z s2. Gives Done s2))
+          (expr_runs setting n env p lives next e f level K w m s st behind_e le h at here)
+          (λ v s1 m1 reach goal shown af.
+          let h1 = here_after setting.text setting.size K w need env p m m1 s s1 lives h af in
+          onwards setting.text setting.size Finished K K.label m m1 s s1 (Behind setting.text setting.size go) m.regs.base m.regs.top (NothingShown setting K) (then_do (prints (character_text v) line lives s1) (λ z s2. Gives Done s2)) reach af
+          (character_run (character_text v) K w need m1 s1 line goal.0 go h1 goal.1 goal.2 (ap (λ z. rows.prints_or_alarms (object setting.text) setting.size m1.regs (character_text z)) shown)))))
+      out_integer kind count formals l a d e line level is f shows K w m s st go le h at here = absurd is
 
       -- ---- statements
 
@@ -217,9 +253,10 @@ module _ (setting : Setting) where
           out_cr kind count formals l a d line is shows = absurd (subst IsNotOutCr is tt)
       called_runs (WithActuals x l (OneExpr e) NoActuals m) f level = λ K w m1 s st go le h at here. out_integer (p x.number).what.kind (p x.number).what.count (p x.number).what.formals (p x.number).level (p x.number).address (found env x.number) e x.line level f.0 f.1 (λ K w need m s h b i. h.frames env p b i x.number) K w m1 s st go le (wants setting.text setting.size K w (need_call (scopes_of p) (WithActuals x l (OneExpr e) NoActuals m)) (need_expr (scopes_of p) e) env p m1 s lives (need_out (p x.number).what.kind (p x.number).what.formals (need_expr (scopes_of p) e) f.0) h) at here
         where
-          need_out : (kind : Kind) (formals : List Kind) (need : ℕ) → kind ≡ OutInteger → need ≤ call_need kind 1 (max (first_need formals 0 need) 0) (max need 0)
+          need_out : (kind : Kind) (formals : List Kind) (need : ℕ) → PrintsNumber kind → need ≤ call_need kind 1 (max (first_need formals 0 need) 0) (max need 0)
           need_out OutInteger formals need is = omega arith
-          need_out kind formals need is = absurd (subst IsNotOutInteger is tt)
+          need_out OutChar formals need is = omega arith
+          need_out kind formals need is = absurd is
       called_runs (WithActuals x l a more m) f level = absurd f
 
       module _ (deeper : NextRuns setting n next) where

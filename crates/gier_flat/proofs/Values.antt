@@ -163,21 +163,21 @@ module _ (text : List Symbol) (size : ℕ) (ends : HasStop text) (small : size <
         inner text size ℤ K K K.label K.label m m1 s s1 (Behind text size go) base top (Same K) (second x s1) (same_known K) w1 (λ i j k l. l) kept2)
 
     -- one operand, and an order that settles what it comes to
-    pub after_runs : (o : Operation) (f : ℤ → Result ℤ Spoil) (line level na : ℕ) (a : Code) (va : State Closure → Outcome Closure ℤ) → (is_row (Some o) 0 0 ≡ true) → (128 + number_of o ≡ 130 → ⊥) → ((m : Regs) (next : m.place + 1 < length (object text)) → Settled text size ends m next (effect (object text) size m o 0 0) (f (int_of_word m.r))) → Runs ℤ Same na (a level) va → Runs ℤ Same na (then_order o line a level) (λ s. then_do (va s) (λ x s1. value_or_alarm (f x) line lives s1))
-    after_runs o f line level na a va fields other does ra K w m s st go le h at here =
-        let behind_a : Following = λ s0. order o 0 0 line s0 go in
+    pub after_runs : (o : Operation) (number : ℕ) → number < 2 ^ 24 → (f : ℤ → Result ℤ Spoil) (line level na : ℕ) (a : Code) (va : State Closure → Outcome Closure ℤ) → (is_row (Some o) 0 number ≡ true) → (128 + number_of o ≡ 130 → ⊥) → ((m : Regs) (next : m.place + 1 < length (object text)) → Settled text size ends m next (effect (object text) size m o 0 number) (f (int_of_word m.r))) → Runs ℤ Same na (a level) va → Runs ℤ Same na (λ w st go. a level w st (λ s. order o 0 number line s go)) (λ s. then_do (va s) (λ x s1. value_or_alarm (f x) line lives s1))
+    after_runs o number small_number f line level na a va fields other does ra K w m s st go le h at here =
+        let behind_a : Following = λ s0. order o 0 number line s0 go in
         let base : ℕ = m.regs.base in
         let top : ℕ = m.regs.top in
         follow_then text size ℤ ℤ K K.label m s (Behind text size behind_a) base top (Same K) (va s) (Behind text size go) base top (Same K) (λ x s1. value_or_alarm (f x) line lives s1)
         (ra K w m s st behind_a le h at here)
         (λ x s1 m1 reach goal shown af.
         let h1 = here_after text size K w na env p m m1 s s1 lives h af in
-        let sd : AtOrder text size ends m1 o 0 0 line goal.0 go = record { at = goal.1; here = goal.2; started = h1.started; low = omega arith; small = omega arith; fields = fields; other = other } in
-        let far1 = far text size ends m1 o 0 0 line goal.0 go sd in
+        let sd : AtOrder text size ends m1 o 0 number line goal.0 go = record { at = goal.1; here = goal.2; started = h1.started; low = omega arith; small = small_number; fields = fields; other = other } in
+        let far1 = far text size ends m1 o 0 number line goal.0 go sd in
         let e0 = does m1.regs far1 in
-        let e1 = subst (λ u. Settled text size ends m1.regs far1 (effect (object text) size m1.regs o 0 0) (f u)) shown e0 in
+        let e1 = subst (λ u. Settled text size ends m1.regs far1 (effect (object text) size m1.regs o 0 number) (f u)) shown e0 in
         onwards text size ℤ K K.label m m1 s s1 (Behind text size go) base top (Same K) (value_or_alarm (f x) line lives s1) reach af
-        (settles K w na m1 s1 o 0 0 line goal.0 go (f x) h1 sd e1))
+        (settles K w na m1 s1 o 0 number line goal.0 go (f x) h1 sd e1))
 
     twice_not : (b : Bool) → not (not b) ≡ b
     twice_not true = refl

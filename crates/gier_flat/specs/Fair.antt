@@ -3,7 +3,7 @@ use Rattle.std.proofs.Common.{◌≡◌, ◌<◌, suc, List, [], ◌∷◌}
 use Rattle.std.specs.Prelude.{⊤}
 use Rattle.gier_tree.specs.declared.kind.Kind.{Kind}
 use Rattle.gier_tree.specs.declared.kind.Kind.TheVariants.{IntegerVariable, BooleanVariable, IntegerValue, BooleanValue, Label}
-use Rattle.gier_tree.specs.declared.kind.Kind.TheVariants.{OutInteger, OutCr}
+use Rattle.gier_tree.specs.declared.kind.Kind.TheVariants.{OutInteger, OutCr, OutChar, Abs, Sign}
 use Rattle.gier_tree.specs.Entries.{entries_numbers, block_entries, program_entries, numbers_unconditional}
 use Rattle.gier_tree.specs.OwnCount.{owns_in_unconditional}
 use Rattle.gier_tree.specs.Places.{Places, block_places, program_places}
@@ -25,6 +25,18 @@ IsCell BooleanVariable = ⊤
 IsCell IntegerValue = ⊤
 IsCell BooleanValue = ⊤
 IsCell kind = ⊥
+
+-- the standard functions of a number
+abbrev pub IsFunction : Kind → Type 0
+IsFunction Abs = ⊤
+IsFunction Sign = ⊤
+IsFunction kind = ⊥
+
+-- the standard procedures that print a number
+abbrev pub PrintsNumber : Kind → Type 0
+PrintsNumber OutInteger = ⊤
+PrintsNumber OutChar = ⊤
+PrintsNumber kind = ⊥
 
 module _ (p : Places) where
   abbrev mutual
@@ -78,6 +90,7 @@ module _ (p : Places) where
 
     pub FairCall : Call → Type 0
     FairCall (Alone x) = IsCell (p x.number).what.kind
+    FairCall (WithActuals x l (OneExpr e) NoActuals m) = IsFunction (p x.number).what.kind × FairExpr e
     FairCall (WithActuals x l a more m) = ⊥
 
   -- designational expressions
@@ -112,7 +125,7 @@ module _ (p : Places) where
   -- what is printed
   abbrev pub FairCalled : Call → Type 0
   FairCalled (Alone x) = (p x.number).what.kind ≡ OutCr
-  FairCalled (WithActuals x l (OneExpr e) NoActuals m) = ((p x.number).what.kind ≡ OutInteger) × FairExpr e
+  FairCalled (WithActuals x l (OneExpr e) NoActuals m) = PrintsNumber (p x.number).what.kind × FairExpr e
   FairCalled (WithActuals x l a more m) = ⊥
 
 -- statements, where they stand
