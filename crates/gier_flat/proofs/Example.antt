@@ -11,7 +11,7 @@ words_are = refl
 
 pub example_premises : Premises (hoist example)
 example_premises = record {
-  part = (tt, (((refl, tt), (refl, (omega arith, omega arith))), ((tt, (omega arith, omega arith), (tt, refl), (tt, refl)), tt)));
+  part = (tt, (((refl, tt), (tt, (omega arith, omega arith))), ((tt, (omega arith, omega arith), (tt, refl), (tt, refl)), tt)));
   scopes = ((refl, tt), (((λ e. cc), tt), ((tt, ((λ e. cc), tt), ((λ e. cc), tt)), tt)));
   short = omega (arith, words_are);
   few = omega arith;
@@ -31,7 +31,7 @@ nested_premises = record {
           (
             record { level = omega arith; distinct = (refl, (refl, tt)); first = tt; others = tt; room = omega arith },
             (tt, (tt, tt, (tt, omega arith))),
-            ((tt, tt, (tt, ((tt, (tt, tt, (tt, omega arith))), ((tt, refl), tt)))), ((tt, (refl, tt)), tt)),
+            ((tt, tt, (tt, ((tt, (tt, tt, (tt, omega arith))), ((tt, refl), tt)))), ((tt, (tt, tt)), tt)),
           ),
         ),
         tt,
