@@ -9,3 +9,4 @@ pub mod Within
 pub mod RightOrders
 pub mod Completing
 pub mod Examples
+pub mod Written

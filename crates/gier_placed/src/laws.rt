@@ -3,6 +3,7 @@ ghost use Rattle.gier_placed.specs.Examples.{AreExamples};
 ghost use Rattle.gier_placed.specs.Fitting.{FittingAreComplete};
 ghost use Rattle.gier_placed.specs.Laws.{LabelsAreAddresses, LabelsAreWithin};
 ghost use Rattle.gier_placed.specs.Placed.{AreNumbered};
+ghost use Rattle.gier_placed.specs.Written.{ProgramsHaveText7};
 
 /// In the text 7 of a program whose scopes are right stand the labels that it declares, and those of its code, each once.
 pub fn law_placed()
@@ -27,4 +28,9 @@ pub fn law_complete_where_fitting()
 /// A small program has its labels' places in the order of its text, and what is asked of it holds.
 pub fn law_placed_examples()
     ensures { AreExamples }
+{}
+
+/// The text 7 of a program without faults of scopes has its labels at their addresses, and is complete where it fits.
+pub fn law_text7_placed()
+    ensures { ProgramsHaveText7 }
 {}

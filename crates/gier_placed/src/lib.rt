@@ -5,5 +5,5 @@ mod laws;
 
 pub use laws::{
     law_complete_where_fitting, law_label_addresses, law_labels_within, law_placed,
-    law_placed_examples,
+    law_placed_examples, law_text7_placed,
 };
