@@ -111,7 +111,7 @@ pub copied_alone : (os : List Name) (p q : Places) (b c : Bool) (x : Name)
 copied_alone os p q b true x = MkCopies (λ k. ap (λ r. fold_written os (used_name (marked_text os) p x r)) (never_marked b x.line k))
 copied_alone os p q b false x = MkCopies (λ k. ap (λ r. fold_written os (used_name (marked_text os) p x r)) (never_marked b x.line k))
 
-marked_alone : (os : List Name) (p : Places) (g : Expected) (e : Expr) (k : List Symbol)
+pub marked_alone : (os : List Name) (p : Places) (g : Expected) (e : Expr) (k : List Symbol)
     → actual_by (name_alone e) (marked_text os) p g (text_expr (marked_text os) p e k) k ≡ text_expr (marked_text os) p e k
 marked_alone os p g (OneSimple (OneImplication (OneDisjunction (OneConjunction (OneNegation (OneRelation (OneArithmetic (OneTerm (OneFactor (OnePrimary (OneCall (Alone x)))))))))))) k =
     ap (λ r. used_name (marked_text os) p x r) (never_marked _ x.line k ∙ back (never_marked _ x.line k))

@@ -12,4 +12,9 @@ pub mod Scopes
 pub mod CopiedStatements
 pub mod Statements
 pub mod Frames
+pub mod Dropping
+pub mod DroppedExpressions
+pub mod DroppedStatements
+pub mod DroppedDeclarations
+pub mod SmallNumbers
 pub mod Programs

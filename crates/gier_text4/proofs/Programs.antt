@@ -1,12 +1,12 @@
 -- Over text 3 of a program the pass writes its text 4.
-use Rattle.std.proofs.Common.{◌≡◌, ◌∙◌, ◌+◌, ◌++◌, ◌-◌, ℕ, Bool, true, false, nat_lt, List, [], ◌∷◌, length, refl}
+use Rattle.std.proofs.Common.{◌≡◌, ◌∙◌, ◌==◌, ◌+◌, ◌++◌, ◌-◌, ℕ, Bool, true, false, nat_lt, List, [], ◌∷◌, length, refl}
 use Rattle.std.proofs.Common.{sym as back, ap, arith, subst}
 use Rattle.std.specs.Prelude.{if◌then◌else◌}
 use Rattle.std.specs.List.{All}
 use Rattle.std.proofs.lemmas.Bool.{eqb-true}
 use Rattle.std.proofs.lemmas.List.Elements.{All-head, All-tail}
 use Rattle.gier_symbol.specs.declared.symbol.Symbol.{Symbol}
-use Rattle.gier_symbol.specs.declared.tag.Tag.TheVariants.{Identifier, TextEnd, Begin, End, Semicolon}
+use Rattle.gier_symbol.specs.declared.tag.Tag.TheVariants.{Identifier, Declaring, TextEnd, Begin, End, Semicolon}
 use Rattle.gier_symbol.specs.ByTag.{sym, word}
 use Rattle.gier_symbol.specs.Tags.{number_of}
 use Rattle.gier_tree.specs.declared.construct.Construct.TheVariants.{Program as MProgram, Block as MBlock}
@@ -23,13 +23,14 @@ use Rattle.gier_tree.specs.Trees.{Name, LabelPlace, Declaration, MkNames, MkFixe
 use Rattle.gier_tree.specs.Trees.{NoStatements, Group, MkBlock, MkCompound, Program, MkProgram}
 use Rattle.gier_tree.specs.Written.{Collected, opens, shuts, number_written, own_name}
 use Rattle.gier_written.specs.Framed.{as_statement, frame_by, written_text4}
-use Rattle.gier_written.specs.Renamed.{collected_text, AreSmall}
+use Rattle.gier_written.specs.Renamed.{collected_text}
 use Rattle.gier_written.proofs.FramedPrograms.{framed_text}
 use Rattle.gier_text4.specs.PurePass.{step, fold, written, pass4_text}
 use Rattle.gier_text4.specs.State.{Frame, NoFrame, FrameBegin, lined}
-use Rattle.gier_text4.specs.Text4.{is_small_use}
+use Rattle.gier_text4.specs.Text4.{is_small_name}
 use Rattle.gier_text4.proofs.Copying.{fold_written, marked_text, is_use, as_written}
 use Rattle.gier_text4.proofs.Calm.{calm}
+use Rattle.gier_text4.proofs.SmallNumbers.{program_small}
 use Rattle.gier_text4.proofs.Scopes.{lined_entries}
 use Rattle.gier_text4.proofs.Standing.{hoisted_text, hoisted_entries, IsFramed, labelled}
 use Rattle.gier_text4.proofs.Statements.{group_stands}
@@ -152,25 +153,25 @@ abbrev with_tag : Symbol → (tag : ℕ) → Symbol
 with_tag s n = record { tag = n; value = s.value; line = s.line }
 
 -- used identifiers are written as they are, where their numbers are below the fresh ones
-same_use : (os : List Name) (s : Symbol) → is_small_use s ≡ true → as_written os s ≡ s
+same_use : (os : List Name) (s : Symbol) → is_small_name s ≡ true → as_written os s ≡ s
 same_use os s small = by (is_use s.tag) refl small
   where
-    by : (b : Bool) → is_use s.tag ≡ b → (if b then nat_lt s.value first_fresh else true) ≡ true
+    by : (b : Bool) → is_use s.tag ≡ b
+        → (if b then nat_lt s.value first_fresh else (if s.tag == number_of Declaring then nat_lt s.value first_fresh else true)) ≡ true
         → (if b then sym Identifier (number_written os s.value) s.line else s) ≡ s
     by true e small =
         ap (λ b. sym Identifier (if b then s.value else own_name os (s.value - first_fresh)) s.line) small
         ∙ ap (with_tag s) (back (eqb-true s.tag (number_of Identifier) e))
     by false e small = refl
 
-same_fold : (os : List Name) (w : List Symbol) → All (λ s. is_small_use s ≡ true) w → fold_written os w ≡ fold w
+same_fold : (os : List Name) (w : List Symbol) → All (λ s. is_small_name s ≡ true) w → fold_written os w ≡ fold w
 same_fold os [] small = refl
 same_fold os (s ∷ w) small =
-    ap (λ z. step z (fold_written os w)) (same_use os s (All-head (λ s. is_small_use s ≡ true) s w small))
-    ∙ ap (step s) (same_fold os w (All-tail (λ s. is_small_use s ≡ true) s w small))
+    ap (λ z. step z (fold_written os w)) (same_use os s (All-head (λ s. is_small_name s ≡ true) s w small))
+    ∙ ap (step s) (same_fold os w (All-tail (λ s. is_small_name s ≡ true) s w small))
 
-pub program_text : (t : Program) → All (λ s. is_small_use s ≡ true) (text3 t) → AreSmall (names_of_owns (owns_of_program t))
-    → pass4_text (text3 t) ≡ text4 t
-program_text t small owns =
+pub program_text : (t : Program) → All (λ s. is_small_name s ≡ true) (text3 t) → pass4_text (text3 t) ≡ text4 t
+program_text t small =
     ap written (back (same_fold (names_of_owns (owns_of_program t)) (text3 t) small))
     ∙ framed_program t
-    ∙ back (framed_text t owns)
+    ∙ back (framed_text t (program_small t small))
