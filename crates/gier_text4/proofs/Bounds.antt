@@ -91,9 +91,6 @@ bound_shuts os l = MkCopiesBounds (λ k. shut_counted l (fold_written os k))
 bound_opens : (os : List Name) (l : ℕ) → CopiesBounds os 0 (λ k. opens MBound l ∷ k) (λ k. opens MBound l ∷ k)
 bound_opens os l = uncounted (MkCopies (λ k. refl))
 
-pub word_counted : (os : List Name) (s : Symbol) → Copies os (λ k. s ∷ k) (λ k. s ∷ k) → CopiesBounds os 0 (λ k. s ∷ k) (λ k. s ∷ k)
-word_counted os s a = uncounted a
-
 -- bounds and pairs of bounds
 copied_bound : (os : List Name) (p q : Places) (e : Expr) → CopiesBounds os 1 (text_bound (marked_text os) p e)
     (text_bound (collected_text os) q e)

@@ -13,7 +13,7 @@ use Rattle.gier_tree.specs.Constructs.{construct_number}
 use Rattle.gier_tree.specs.Lines.{first_expr, last_expr}
 use Rattle.gier_tree.specs.Places.{Places}
 use Rattle.gier_tree.specs.Spell.{adding_tag, multiplying_tag, comparing_tag, logical_tag, spell_bytes}
-use Rattle.gier_tree.specs.Written.{Expected, Marked, Collected, opens, shuts, leading_tag, used_name, called_alone, name_alone}
+use Rattle.gier_tree.specs.Written.{Expected, Marked, opens, shuts, leading_tag, used_name, called_alone, name_alone}
 use Rattle.gier_tree.specs.Written.{actual_by, expected_kinds, further_expected, is_called_alone, text_name, text_expr, text_simple}
 use Rattle.gier_tree.specs.Written.{text_implication, text_disjunction, text_conjunction, text_negation, text_relation}
 use Rattle.gier_tree.specs.Written.{text_arithmetic, text_term, text_factor, text_primary, text_call, text_element, text_actual}
@@ -101,10 +101,6 @@ copied_use os p q x = MkCopies (λ k. refl)
 never_marked : (b : Bool) (l : ℕ) (k : List Symbol) → called_alone Marked b l k ≡ k
 never_marked true l k = refl
 never_marked false l k = refl
-
-never_collected : (b : Bool) (l : ℕ) (k : List Symbol) → called_alone Collected b l k ≡ k
-never_collected true l k = refl
-never_collected false l k = refl
 
 pub copied_alone : (os : List Name) (p q : Places) (b c : Bool) (x : Name)
     → Copies os (text_name (marked_text os) p b x) (text_name (collected_text os) q c x)

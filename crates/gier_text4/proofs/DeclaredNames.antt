@@ -100,12 +100,6 @@ declare_own TypeSpot _ (OwningIs m) x n o d sc w f h i fr = refl
 declare_own (SegmentSpot b) _ (OwningMay part) x n o d sc w f h i fr = refl
 declare_own (SegmentSpot b) _ (OwningIs m) x n o d sc w f h i fr = refl
 
-comma_own : (sp : Spot) (m l : ℕ) (o d : List Symbol) (sc : List (List Symbol)) (w : List Symbol) (f : List Kind) (h i : List Symbol)
-    (fr : Frame)
-    → step (word Comma l) (MkState o d sc w f (IsOwn m 0) (at_spot sp h i) fr)
-    ≡ MkState o (word Comma l ∷ d) sc w f (IsOwn m 0) (at_spot sp h i) fr
-comma_own sp m l o d sc w f h i fr = refl
-
 pub owns_read : (os : List Name) (sp : Spot) (own : Owning) → IsOwning own → (ns : List NextName) (x : Name) (n : ℕ)
     (k o d : List Symbol) (sc : List (List Symbol)) (w : List Symbol) (f : List Kind) (h i : List Symbol) (fr : Frame)
     → fold_written os k ≡ MkState o d sc w f own (at_spot sp h i) fr

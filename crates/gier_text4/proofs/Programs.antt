@@ -99,6 +99,15 @@ none_within : (d : Declaration) (ds : List Declaration) → AreOwn (d ∷ ds) �
 none_within _ ds (OwnVariables y t ns _ a) i = refl
 none_within _ ds (OwnArrays y t m s ss _ a) i = refl
 
+-- the same, where its first declaration is told apart
+abbrev frame_from : List Name → Places → Where → Declaration → List Declaration → (next line : ℕ) → List LabelPlace → List Symbol
+    → List Symbol
+frame_from os q v d ds n l ls o = opens MProgram l ∷ opens MBlock l ∷ entries_of Collected (without_own d 0) 0 l
+    (entries_of_all Collected (hoisted_declarations ds n) (0 + owns_in_declaration (without_own d 0)) l
+    (all_entries (label_entries ls) l (word Begin l ∷ text_declaration (collected_text os) q v (last_own d) (without_own d 0)
+    (word Semicolon (last_own d) ∷ text_declarations (collected_text os) q (behind_declaration v (without_own d 0))
+    (hoisted_declarations ds n) o))))
+
 framed : (os : List Name) (d : Declaration) (ds : List Declaration) (ls : List LabelPlace) (g : Group) (l : ℕ) → AreOwn (d ∷ ds)
     → owns_of_group g [] ≡ d ∷ ds
     → written (fold_written os (text_program (marked_text os) (length (names_of_owns (d ∷ ds))) (MkProgram ls g l)))
@@ -127,16 +136,8 @@ framed os d ds ls g l a e =
     ∙ ap (λ z. written (step (opens MProgram f) (calm o1 (hoisted_text z 0 []) (all_entries (label_entries labels) 0 [] ∷ [])
     (hoisted_entries z 0 []) FrameBegin))) e
     ∙ frame_written os q w1 (d ∷ ds) f labels o1 a
-    ∙ ap (λ z. opens MProgram f ∷ opens MBlock f ∷ entries_of Collected (without_own d 0) 0 f (entries_of_all Collected
-    (hoisted_declarations ds z) (0 + owns_in_declaration (without_own d 0)) f (all_entries (label_entries labels) f (word Begin f
-    ∷ text_declaration (collected_text os) q w1 (last_own d) (without_own d 0) (word Semicolon (last_own d)
-    ∷ text_declarations (collected_text os) q (behind_declaration w1 (without_own d 0)) (hoisted_declarations ds z) o1)))))
-    zero_added
-    ∙ ap (λ z. opens MProgram z ∷ opens MBlock z ∷ entries_of Collected (without_own d 0) 0 z (entries_of_all Collected
-    hd (0 + owns_in_declaration (without_own d 0)) z (all_entries (label_entries labels) z (word Begin z
-    ∷ text_declaration (collected_text os) q w1 (last_own d) (without_own d 0) (word Semicolon (last_own d)
-    ∷ text_declarations (collected_text os) q (behind_declaration w1 (without_own d 0)) hd o1)))))
-    (line_of_program t)
+    ∙ ap (λ z. frame_from os q w1 d ds z f labels o1) zero_added
+    ∙ ap (λ z. frame_from os q w1 d ds n z labels o1) (line_of_program t)
 
 by_owns : (os : List Name) (ds : List Declaration) (ls : List LabelPlace) (g : Group) (l : ℕ) → AreOwn ds → owns_of_group g [] ≡ ds
     → written (fold_written os (text_program (marked_text os) (length (names_of_owns ds)) (MkProgram ls g l)))
