@@ -1,13 +1,13 @@
--- Programs for which the law's premises hold: a label, a conditional statement with a go to it, and what is printed; and blocks, one
--- within the other, with a go to out of the inner one.
+-- Programs for which the law's premises hold: a label, a conditional statement with a go to it, and what is printed; and
+-- blocks, one within the other, with a go to out of the inner one.
 use Rattle.std.specs.Prelude.{ℕ, [], ◌∷◌}
 use Rattle.gier_tree.specs.SpellExamples.{at}
 use Rattle.gier_tree.specs.Trees.{Add, LessThan, OneSimple, OneImplication, OneDisjunction, OneConjunction, OneNegation}
 use Rattle.gier_tree.specs.Trees.{OneRelation, OneArithmetic, Compared, OneTerm, Summed, OneFactor, OnePrimary, Numeral}
 use Rattle.gier_tree.specs.Trees.{OneCall, Alone, WithActuals, OneExpr, NoActuals, only, MkCompound, NoStatements}
 use Rattle.gier_tree.specs.Trees.{MoreStatements, OneUnconditional, OneConditional, MkUnconditional, Jump, CallStatement}
-use Rattle.gier_tree.specs.Trees.{IfThen, IfElse, OneName, Assign, OneGroup, MkBlock, DeclareType, MkNames, IntegerType, BooleanType}
-use Rattle.gier_tree.specs.Trees.{NoDeclarations, Primary, Relation, Term, Expr, Statement, Program, MkProgram}
+use Rattle.gier_tree.specs.Trees.{IfThen, IfElse, OneName, Assign, OneGroup, MkBlock, DeclareType, MkNames, IntegerType}
+use Rattle.gier_tree.specs.Trees.{BooleanType, NoDeclarations, Primary, Relation, Term, Expr, Statement, Program, MkProgram}
 
 -- 1 + 2, and 2 < 1
 abbrev pub sum : Expr
@@ -44,7 +44,8 @@ relation r = OneSimple (OneImplication (OneDisjunction (OneConjunction (OneNegat
 
 -- i := 1, b := i < 3, i := i + 1
 abbrev pub assign : (number line : ℕ) → Expr → Statement
-assign number line e = OneUnconditional (MkUnconditional [] (Assign (record { left = OneName (at number line); becomes = line }) [] e))
+assign number line e =
+    OneUnconditional (MkUnconditional [] (Assign (record { left = OneName (at number line); becomes = line }) [] e))
 
 abbrev pub beginning : Statement
 beginning = assign 9 2 (only (Numeral 1 2))

@@ -1,5 +1,5 @@
--- What is asked of the scope of a block for which the law is proved so far: it declares simple variables and labels, each identifier
--- once, its level and its room are in their bounds. Own declarations declare nothing, since they were hoisted.
+-- What is asked of the scope of a block for which the law is proved so far: it declares simple variables and labels, each
+-- identifier once, and its level and its room are in their bounds. Own declarations declare nothing, since they were hoisted.
 use Rattle.std.specs.Prelude.{◌≤◌, ◌<◌, ◌^◌, ◌+◌, suc, ⊤}
 use Rattle.gier_tree.specs.Coded.{scopes_of}
 use Rattle.gier_tree.specs.Entries.{block_entries}
@@ -23,7 +23,8 @@ AreSimple NoDeclarations = ⊤
 AreSimple (MoreDeclarations d l ds) = IsSimple d × AreSimple ds
 
 -- of a block that stands there
-pub record FairScope (p : Places) (at : Where) (d : Declaration) (ds : Declarations) (s : Statement) (ss : Statements) : Type 0 where
+pub record FairScope (p : Places) (at : Where) (d : Declaration) (ds : Declarations) (s : Statement) (ss : Statements)
+    : Type 0 where
   pub level : suc at.level ≤ greatest_level
   pub distinct : AreDistinct (identifiers (block_entries d ds s ss))
   pub first : IsSimple d
