@@ -1,21 +1,16 @@
 -- Behind a piece of code stands what follows it.
-use Rattle.std.proofs.Common.{◌≡◌, ℕ, suc, ◌+◌, ◌≤◌, Bool, true, false, List, arith}
-use Rattle.std.specs.Prelude.{◌^◌, nat_lt}
+use Rattle.std.proofs.Common.{◌≡◌, ℕ, suc, ◌+◌, ◌≤◌, List, arith}
 use Rattle.gier_symbol.specs.declared.symbol.Symbol.{Symbol}
 use Rattle.gier_symbol.specs.declared.tag.Tag.TheVariants.{Word}
 use Rattle.gier_symbol.specs.ByTag.{sym as tagged}
 use Rattle.gier_order.specs.declared.operation.Operation.{Operation}
 use Rattle.gier_order.specs.declared.operation.Operation.TheVariants as op
-use Rattle.gier_tree.specs.declared.kind.Kind.{Kind}
-use Rattle.gier_tree.specs.declared.kind.Kind.TheVariants.{IntegerVariable, BooleanVariable, IntegerValue, BooleanValue}
 use Rattle.gier_tree.specs.Orders.{State, Following, Code, order, with_label, define, data_word, new, behind_word, first_label, number_of}
-use Rattle.gier_tree.specs.Coded.{both, then_order, sign_code, number_code, choice, code_expr, code_simple, code_implication, code_disjunction, code_conjunction, code_negation, code_relation, code_arithmetic, code_term, code_factor, code_primary, code_call, alone_code, adding_operation, multiplying_operation, comparing_operation}
-use Rattle.gier_tree.specs.Places.{Places}
-use Rattle.gier_tree.specs.Trees.{Adding, Add, Subtract, Multiplying, Multiply, Divide, Comparing, LessThan, AtMost, EqualTo, AtLeast, MoreThan, Unequal, Expr, OneSimple, IfExpr, Simple, OneImplication, Equivalent, Implication, OneDisjunction, Implies, Disjunction, OneConjunction, Either, Conjunction, OneNegation, Both, Negation, OneRelation, Negated, Relation, OneArithmetic, Compared, Arithmetic, OneTerm, Signed, Summed, Term, OneFactor, Multiplied, Factor, OnePrimary, Raised, Primary, Numeral, Logical, Bracketed, OneCall, OneElement, Call, Alone, WithActuals}
+use Rattle.gier_tree.specs.Coded.{both, then_order, choice, adding_operation, multiplying_operation, comparing_operation}
+use Rattle.gier_tree.specs.Trees.{Adding, Add, Subtract, Multiplying, Multiply, Divide, Comparing, LessThan, AtMost, EqualTo, AtLeast, MoreThan, Unequal}
 use Rattle.gier_tree.specs.Words.{HasStop}
 use Rattle.gier_flat.proofs.Positions.{At, behind}
 use Rattle.gier_flat.proofs.Orders.{order_next, labelled_next, defined}
-use Rattle.gier_flat.specs.Fair.{IsCell, FairExpr, FairSimple, FairImplication, FairDisjunction, FairConjunction, FairNegation, FairRelation, FairArithmetic, FairTerm, FairFactor, FairPrimary, FairCall}
 
 pub comparing_goes : (o : Comparing) → 128 + number_of (comparing_operation o) ≡ 130 → ⊥
 comparing_goes LessThan e = absurd (omega (arith, e))

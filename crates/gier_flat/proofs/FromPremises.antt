@@ -1,5 +1,5 @@
 -- The law, from its premises.
-use Rattle.std.proofs.Common.{◌≡◌, ◌∙◌, ℕ, ◌+◌, ◌*◌, ◌<◌, ◌≤◌, Bool, true, false, List, [], ◌∷◌, length, refl, sym, ap, subst, arith}
+use Rattle.std.proofs.Common.{◌≡◌, ◌∙◌, ℕ, ◌+◌, ◌*◌, ◌<◌, Bool, true, false, List, [], length, refl, sym, ap, subst, arith}
 use Rattle.std.specs.Prelude.{◌==◌, ◌^◌, ◌||◌, if◌then◌else◌}
 use Rattle.gier_symbol.specs.declared.symbol.Symbol.{Symbol}
 use Rattle.gier_symbol.specs.declared.tag.Tag.TheVariants.{OpenRoom}
@@ -8,16 +8,15 @@ use Rattle.gier_order.specs.declared.operation.Operation.TheVariants as op
 use Rattle.gier_order.specs.Flat.Run.{flat}
 use Rattle.gier_tree.specs.Coded.{scopes_of}
 use Rattle.gier_tree.specs.Declaring.{labels_of_program}
-use Rattle.gier_tree.specs.declared.kind.Kind.TheVariants.{Label}
-use Rattle.gier_tree.specs.Described.{Described, plain as plain_kind}
-use Rattle.gier_tree.specs.Entries.{entries_numbers, label_entries, program_entries}
+use Rattle.gier_tree.specs.Described.{Described}
+use Rattle.gier_tree.specs.Entries.{entries_numbers, program_entries}
 use Rattle.gier_tree.specs.Hoist.{hoist}
 use Rattle.gier_tree.specs.Lines.{group_begin}
 use Rattle.gier_tree.specs.Need.{need_group}
 use Rattle.gier_tree.specs.Object.{object_of}
 use Rattle.gier_tree.specs.Orders as code
 use Rattle.gier_tree.specs.Orders.{Following, order, room_order, needs, number_of, behind_word}
-use Rattle.gier_tree.specs.Places.{Placed, place_all, standard_places}
+use Rattle.gier_tree.specs.Places.{standard_places}
 use Rattle.gier_tree.specs.Text7.{code_program, object_words, code_statement}
 use Rattle.gier_tree.specs.Texts.{Where}
 use Rattle.gier_tree.specs.Trees as tree
@@ -41,7 +40,7 @@ use Rattle.gier_fair.specs.InScope.{AreDistinct}
 use Rattle.gier_placed.proofs.Addresses.{labels_are_addresses}
 use Rattle.gier_flat.specs.Premises.{Premises}
 use Rattle.gier_flat.proofs.BlockEntries.{entries_named}
-use Rattle.gier_flat.proofs.BlockNumbers.{numbered, good as good_number}
+use Rattle.gier_flat.proofs.BlockNumbers.{numbered, good as good_number, entries_within}
 use Rattle.gier_flat.proofs.DeclaredEntities.{mean, mean_at}
 use Rattle.gier_flat.proofs.LabelPlaces.{IsPlaced, ArePlaced, placed_statement, has_label}
 use Rattle.gier_flat.proofs.Positions.{At, length_from, behind}
@@ -60,14 +59,6 @@ standard_within x = (omega arith, by (x == 0) _ _ refl (by (x == 1) _ _ refl (by
     by : (t : Bool) (a b : Described) → a.formals ≡ [] → b.formals ≡ [] → (if t then a else b).formals ≡ []
     by true a b i j = i
     by false a b i j = j
-
-labels_within : (ls : List LabelPlace) (address number : ℕ) → AreWithin (place_all 1 address number (label_entries ls) standard_places) 1
-labels_within [] address number x = standard_within x
-labels_within (l ∷ ls) address number x = by (x == l.name.number) _ (labels_within ls (address + 0) (number + 1) x)
-  where
-    by : (t : Bool) (q : Placed) → (q.level ≤ 1) × (q.what.formals ≡ []) → ((if t then record { what = plain_kind Label; level = 1; address = number } else q).level ≤ 1) × ((if t then record { what = plain_kind Label; level = 1; address = number } else q).what.formals ≡ [])
-    by true q i = (omega arith, refl)
-    by false q i = i
 
 same_line : (g : Group) → group_begin g ≡ begin_line g
 same_line (MkBlock l d m ds s ss n) = refl
@@ -133,7 +124,7 @@ module _ (ls : List LabelPlace) (g : Group) (end : ℕ) (h : Premises (MkProgram
       let good : (e : ℕ) → e < length xs → IsPlaced setting e = label_good setting refl in
       subst (λ line. TellsTheSame text (flat (object_of text) 0 input steps size) (observation steps (program_run size (within size steps) line (statement u) (own xs) (env xs) (live_after_taking size 0 0 (program_room (what_of (env xs) (initial_state input steps)) (statement u))) (program_room (what_of (env xs) (initial_state input steps)) (statement u)) (initial_state input steps)))) (same_line g)
       (subst (λ room. TellsTheSame text (flat (object_of text) 0 input steps size) (observation steps (program_run size (within size steps) l (statement u) (own xs) (env xs) (live_after_taking size 0 0 room) room (initial_state input steps)))) (places_equal ls g end ∙ programs_equal t input steps)
-      (program_told setting input steps l (env xs) (places (labels_of_program t)) place u h.part (labels_within (labels_of_program t) 0 0) (deeper setting steps) (own xs) (initial_state input steps) begun beyond h.room stands refl (are_whole t).need refl refl refl refl refl
+      (program_told setting input steps l (env xs) (places (labels_of_program t)) place u h.part (entries_within [] (labels_of_program t) 1 0 0 standard_places standard_within) (deeper setting steps) (own xs) (initial_state input steps) begun beyond h.room stands refl (are_whole t).need refl refl refl refl refl
       (NewLabel setting input steps (labels_of_program t) xs (same_program ls g) need)
       (is_new setting input steps (labels_of_program t) xs (same_program ls g) need good)
       (λ e a i. (among_entities 0 xs e e i.0 (omega arith), ap (λ b. b || false) (within_program e i.0)))))

@@ -35,7 +35,6 @@ mod BlockActivation
 mod BlockRooms
 mod BlockNumbers
 mod DeclaredBlock
-mod Pieces
 mod DeclaredQuantities
 mod Labels
 mod ProgramActivation

@@ -19,7 +19,7 @@ use Rattle.gier_order.specs.Flat.Run.{with_row}
 use Rattle.gier_tree.specs.Orders as code
 use Rattle.gier_tree.specs.Orders.{Following, Code, order, number_of, behind_word}
 use Rattle.gier_tree.specs.Object.{words_of}
-use Rattle.gier_tree.specs.Coded.{both, then_order}
+use Rattle.gier_tree.specs.Coded.{both}
 use Rattle.gier_tree.specs.Places.{Placed, Places}
 use Rattle.gier_meaning.specs.Tree.{Operator}
 use Rattle.gier_meaning.specs.Operators as meaning
