@@ -23,40 +23,54 @@ nested_premises = record {
   part = (
     tt,
     (
-      record { level = omega arith; distinct = (refl, (refl, tt)); first = tt; others = tt; room = omega arith },
-      (tt, (tt, tt, omega arith)),
+      record { level = omega arith; distinct = (refl, tt); first = tt; others = tt; room = omega arith },
       (
+        tt,
         (
-          (refl, tt),
+          record { level = omega arith; distinct = (refl, (refl, tt)); first = tt; others = tt; room = omega arith },
+          (tt, (tt, tt, omega arith)),
           (
-            record { level = omega arith; distinct = (refl, (refl, tt)); first = tt; others = tt; room = omega arith },
-            (tt, (tt, tt, (tt, omega arith))),
-            ((tt, tt, (tt, ((tt, (tt, tt, (tt, omega arith))), ((tt, refl), tt)))), ((tt, (tt, tt)), tt)),
+            (
+              (refl, tt),
+              (
+                record { level = omega arith; distinct = (refl, (refl, tt)); first = tt; others = (tt, tt); room = omega arith },
+                (tt, (tt, tt, (tt, omega arith))),
+                ((tt, (tt, tt, (tt, omega arith))), ((tt, tt, (tt, ((tt, (tt, tt, (tt, omega arith))), ((tt, refl), tt)))), ((tt, (tt, tt)), tt))),
+              ),
+            ),
+            tt,
           ),
         ),
-        tt,
       ),
+      tt,
     ),
   );
   scopes = (
     tt,
     (
       omega arith,
-      (refl, (refl, tt)),
+      (refl, tt),
       tt,
       tt,
-      ((λ e. cc), tt),
       (
-        (
-          omega arith,
-          (refl, (refl, tt)),
-          tt,
-          tt,
-          ((λ e. cc), ((λ e. cc), tt)),
-          ((((λ e. cc), tt), (((λ e. cc), ((λ e. cc), tt)), (((λ e. cc), tt), tt))), (((λ e. cc), ((λ e. cc), tt)), tt)),
-        ),
+        omega arith,
+        (refl, (refl, tt)),
         tt,
+        tt,
+        ((λ e. cc), tt),
+        (
+          (
+            omega arith,
+            (refl, (refl, tt)),
+            tt,
+            (tt, tt),
+            ((λ e. cc), ((λ e. cc), tt)),
+            (((λ e. cc), ((λ e. cc), tt)), ((((λ e. cc), tt), (((λ e. cc), ((λ e. cc), tt)), (((λ e. cc), tt), tt))), (((λ e. cc), ((λ e. cc), tt)), tt))),
+          ),
+          tt,
+        ),
       ),
+      tt,
     ),
   );
   short = omega arith;

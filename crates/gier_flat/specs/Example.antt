@@ -1,5 +1,5 @@
 -- Programs for which the law's premises hold: a label, a conditional statement with a go to it, and what is printed; and
--- blocks, one within the other, with a go to out of the inner one.
+-- blocks, one within the other, with a go to out of the inner one and an own variable.
 use Rattle.std.specs.Prelude.{ℕ, [], ◌∷◌}
 use Rattle.gier_tree.specs.SpellExamples.{at}
 use Rattle.gier_tree.specs.Trees.{Add, LessThan, OneSimple, OneImplication, OneDisjunction, OneConjunction, OneNegation}
@@ -7,7 +7,8 @@ use Rattle.gier_tree.specs.Trees.{OneRelation, OneArithmetic, Compared, OneTerm,
 use Rattle.gier_tree.specs.Trees.{OneCall, Alone, WithActuals, OneExpr, NoActuals, only, MkCompound, NoStatements}
 use Rattle.gier_tree.specs.Trees.{MoreStatements, OneUnconditional, OneConditional, MkUnconditional, Jump, CallStatement}
 use Rattle.gier_tree.specs.Trees.{IfThen, IfElse, OneName, Assign, OneGroup, MkBlock, DeclareType, MkNames, IntegerType}
-use Rattle.gier_tree.specs.Trees.{BooleanType, NoDeclarations, Primary, Relation, Term, Expr, Statement, Program, MkProgram}
+use Rattle.gier_tree.specs.Trees.{BooleanType, DeclareOwn, NoDeclarations, MoreDeclarations, Primary, Relation, Term, Expr}
+use Rattle.gier_tree.specs.Trees.{Statement, Program, MkProgram}
 
 -- 1 + 2, and 2 < 1
 abbrev pub sum : Expr
@@ -42,7 +43,7 @@ term q = OneFactor (OnePrimary q)
 abbrev pub relation : Relation → Expr
 relation r = OneSimple (OneImplication (OneDisjunction (OneConjunction (OneNegation (OneRelation r)))))
 
--- i := 1, b := i < 3, i := i + 1
+-- i := 1, b := i < 3, i := i + 1, n := n + 1
 abbrev pub assign : (number line : ℕ) → Expr → Statement
 assign number line e =
     OneUnconditional (MkUnconditional [] (Assign (record { left = OneName (at number line); becomes = line }) [] e))
@@ -55,6 +56,9 @@ asking = assign 10 4 (relation (Compared (OneTerm (term (variable 9 4))) LessTha
 
 abbrev pub counting : Statement
 counting = assign 9 5 (relation (OneArithmetic (Summed (OneTerm (term (variable 9 5))) Add 5 (term (Numeral 1 5)))))
+
+abbrev pub keeping : Statement
+keeping = assign 12 4 (relation (OneArithmetic (Summed (OneTerm (term (variable 12 4))) Add 4 (term (Numeral 1 4)))))
 
 -- _goto again
 abbrev pub going : Statement
@@ -71,12 +75,13 @@ abbrev pub telling : Statement
 telling =
     OneUnconditional (MkUnconditional [] (CallStatement (WithActuals (at 0 6) 6 (OneExpr (only (variable 9 6))) NoActuals 6)))
 
--- again: _begin _Boolean b, c; b := i < 3; .. _end
+-- again: _begin _Boolean b, c; _own _integer n; b := i < 3; n := n + 1; .. _end
 abbrev pub inner_block : Statement
 inner_block =
     OneUnconditional (MkUnconditional (record { name = at 8 3; colon = 3 } ∷ []) (OneGroup (MkBlock 3
     (DeclareType (record { type = BooleanType; line = 3 }) (MkNames (at 10 3) (record { comma = 3; name = at 11 3 } ∷ []))) 3
-    NoDeclarations asking (MoreStatements 4 deciding (MoreStatements 5 telling NoStatements)) 6)))
+    (MoreDeclarations (DeclareOwn 3 (record { type = IntegerType; line = 3 }) (MkNames (at 12 3) [])) 3 NoDeclarations) asking
+    (MoreStatements 4 keeping (MoreStatements 4 deciding (MoreStatements 5 telling NoStatements))) 6)))
 
 -- _begin _integer i; i := 1; again: .. _end
 abbrev pub nested : Program

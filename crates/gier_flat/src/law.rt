@@ -16,7 +16,7 @@ pub fn law_flat_example()
     ensures { Premises (hoist example) }
 {}
 
-/// They hold of a program with a block in a block, variables of both, and a go to that leaves the inner block.
+/// They hold of a program with a block in a block, variables of both, an own variable, and a go to that leaves the inner block.
 pub fn law_flat_nested()
     ensures { Premises (hoist nested) }
 {}
