@@ -1,6 +1,6 @@
 -- Conditional expressions, and expressions of all rules.
 use Rattle.std.proofs.Common.{◌≡◌, ℕ, suc, ◌+◌, ◌<◌, ◌≤◌, Bool, true, false, ℤ, pos, List, [], ◌∷◌, length, Option, Some, None, refl, sym, ap, ◌∙◌, subst, arith}
-use Rattle.std.specs.Prelude.{Ok, ◌==◌, ◌^◌, not, nat_lt, max, if◌then◌else◌}
+use Rattle.std.specs.Prelude.{Ok, drop, ◌==◌, ◌^◌, not, nat_lt, max, if◌then◌else◌}
 use Rattle.std.proofs.lemmas.Bool.{ltb-true}
 use Rattle.std.proofs.lemmas.List.{append-nil}
 use Rattle.gier_word.specs.Words.{int_of_word}
@@ -15,7 +15,7 @@ use Rattle.gier_order.specs.Flat.Rows as rows
 use Rattle.gier_order.specs.Flat.Rows.{effect, jumps, on, goes}
 use Rattle.gier_order.specs.Flat.Run.{with_row}
 use Rattle.gier_tree.specs.declared.kind.Kind.{Kind}
-use Rattle.gier_tree.specs.declared.kind.Kind.TheVariants.{IntegerVariable, BooleanVariable, IntegerValue, BooleanValue, Abs, Sign}
+use Rattle.gier_tree.specs.declared.kind.Kind.TheVariants.{IntegerVariable, BooleanVariable, IntegerValue, BooleanValue, InInteger, Abs, Sign}
 use Rattle.gier_tree.specs.Orders as code
 use Rattle.gier_tree.specs.Orders.{Following, Code, order, with_label, define, data_word, new, first_label, number_of, behind_word}
 use Rattle.gier_tree.specs.Object.{address_of}
@@ -51,10 +51,12 @@ use Rattle.gier_flat.proofs.OrderRows.{Machine, object, Reach, onward}
 use Rattle.gier_flat.proofs.StackRelation.{Known, IsVariable, Shows, RunInvariant, StateAfter, RefinesOutcome, Behind, here_after}
 use Rattle.gier_flat.proofs.Composition.{follow_then, follow_on, onwards, wants, Stays, stays_after}
 use Rattle.gier_flat.proofs.Numbers.{short, same_truth}
+use Rattle.gier_word.specs.Standard.{integer_read}
+use Rattle.gier_flat.proofs.Reading.{number_run, integer_holds}
 use Rattle.gier_flat.proofs.StandardFunctions.{modulus_settles, sign_settles}
 use Rattle.gier_flat.proofs.Values.{Shown, Same, Runs, both_runs, after_runs, gives_now, nots, then_same, takes}
 use Rattle.gier_flat.proofs.Orders.{to, AtLabelledOrder, AtOrder, placed, defined, labelled_far, labelled_next, labelled_row_of, goes_by, far, order_next, needed, row_of, on_row, jump_row, negates, operation}
-use Rattle.gier_flat.specs.Fair.{IsCell, IsFunction, FairExpr, FairSimple, FairImplication, FairDisjunction, FairConjunction, FairNegation, FairRelation, FairArithmetic, FairTerm, FairFactor, FairPrimary, FairCall}
+use Rattle.gier_flat.specs.Fair.{IsTaken, IsFunction, FairExpr, FairSimple, FairImplication, FairDisjunction, FairConjunction, FairNegation, FairRelation, FairArithmetic, FairTerm, FairFactor, FairPrimary, FairCall}
 use Rattle.gier_flat.proofs.AllPasses.{expr_passes}
 use Rattle.gier_flat.proofs.Continuations.{Passes}
 use Rattle.std.proofs.lemmas.Bool.{lt-ltb}
@@ -252,11 +254,15 @@ module _ (setting : Setting) where
           (sym (alone_is K m.regs.words s.store sees.0 kind at d line s (shows K w 0 m s h sees.0 sees.3)))
           (takes setting.text setting.size setting.ends setting.small n env p lives K w 0 m s kind at d line next st go h (shows K w 0 m s h) here place)
 
-      cell_runs : (kind : Kind) (count : ℕ) (formals : List Kind) (l a : ℕ) (d : Option Denoted) (line level : ℕ) → IsCell kind → ((K : Known) (w need : ℕ) (m : Machine) (s : State Closure) → RunInvariant setting.text setting.size K w need env p m s lives → (b : ℕ) → K.frame env p b → Shows setting.text K m.regs.words s.store b kind (record { what = record { kind = kind; count = count; formals = formals }; level = l; address = a }) d) → Runs setting.text setting.size setting.ends setting.small n env p lives ℤ (Same setting.text setting.size setting.ends setting.small) 0 (alone_code (record { what = record { kind = kind; count = count; formals = formals }; level = l; address = a }) line level) (λ s. alone setting.size next d env line lives s)
+      cell_runs : (kind : Kind) (count : ℕ) (formals : List Kind) (l a : ℕ) (d : Option Denoted) (line level : ℕ) → IsTaken kind → ((K : Known) (w need : ℕ) (m : Machine) (s : State Closure) → RunInvariant setting.text setting.size K w need env p m s lives → (b : ℕ) → K.frame env p b → Shows setting.text K m.regs.words s.store b kind (record { what = record { kind = kind; count = count; formals = formals }; level = l; address = a }) d) → Runs setting.text setting.size setting.ends setting.small n env p lives ℤ (Same setting.text setting.size setting.ends setting.small) 0 (alone_code (record { what = record { kind = kind; count = count; formals = formals }; level = l; address = a }) line level) (λ s. alone setting.size next d env line lives s)
       cell_runs IntegerVariable count formals l a d line level f shows = variable_runs Integer (record { what = record { kind = IntegerVariable; count = count; formals = formals }; level = l; address = a }) d line shows
       cell_runs BooleanVariable count formals l a d line level f shows = variable_runs Boolean (record { what = record { kind = BooleanVariable; count = count; formals = formals }; level = l; address = a }) d line shows
       cell_runs IntegerValue count formals l a d line level f shows = variable_runs Integer (record { what = record { kind = IntegerValue; count = count; formals = formals }; level = l; address = a }) d line shows
       cell_runs BooleanValue count formals l a d line level f shows = variable_runs Boolean (record { what = record { kind = BooleanValue; count = count; formals = formals }; level = l; address = a }) d line shows
+      cell_runs InInteger count formals l a d line level f shows = λ K w m s st go le h at here.
+          subst (λ d. RefinesOutcome setting.text setting.size ℤ K K.label m s (Behind setting.text setting.size go) m.regs.base m.regs.top (Same setting.text setting.size setting.ends setting.small K) (alone setting.size next d env line lives s)) (sym (shows K w 0 m s h h.sees.0 h.sees.3))
+          (number_run setting.text setting.size setting.ends setting.small n env p lives (integer_read s.unread).outcome (drop (integer_read s.unread).taken s.unread) (integer_holds s.unread) K w 0 m s line st go h at here
+          (ap (λ u. rows.received (object setting.text) setting.size m.regs (integer_read u).outcome (drop (integer_read u).taken u)) h.input))
       cell_runs kind count formals l a d line level f shows = absurd f
 
       -- ---- expressions

@@ -10,6 +10,7 @@ mod StopReport
 mod Continuations
 mod Values
 mod StandardFunctions
+mod Reading
 mod Expressions
 mod StatementContinuations
 mod LeftParts

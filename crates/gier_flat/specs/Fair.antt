@@ -3,7 +3,7 @@ use Rattle.std.proofs.Common.{◌≡◌, ◌<◌, suc, List, [], ◌∷◌}
 use Rattle.std.specs.Prelude.{⊤}
 use Rattle.gier_tree.specs.declared.kind.Kind.{Kind}
 use Rattle.gier_tree.specs.declared.kind.Kind.TheVariants.{IntegerVariable, BooleanVariable, IntegerValue, BooleanValue, Label}
-use Rattle.gier_tree.specs.declared.kind.Kind.TheVariants.{OutInteger, OutCr, OutChar, Abs, Sign}
+use Rattle.gier_tree.specs.declared.kind.Kind.TheVariants.{OutInteger, OutCr, OutChar, InInteger, Abs, Sign}
 use Rattle.gier_tree.specs.Entries.{entries_numbers, block_entries, program_entries, numbers_unconditional}
 use Rattle.gier_tree.specs.OwnCount.{owns_in_unconditional}
 use Rattle.gier_tree.specs.Places.{Places, block_places, program_places}
@@ -25,6 +25,11 @@ IsCell BooleanVariable = ⊤
 IsCell IntegerValue = ⊤
 IsCell BooleanValue = ⊤
 IsCell kind = ⊥
+
+-- what an identifier alone may be for its value: a variable, a formal by value, or the procedure that reads a number
+abbrev pub IsTaken : Kind → Type 0
+IsTaken InInteger = ⊤
+IsTaken kind = IsCell kind
 
 -- the standard functions of a number
 abbrev pub IsFunction : Kind → Type 0
@@ -89,7 +94,7 @@ module _ (p : Places) where
     FairPrimary (OneElement e) = ⊥
 
     pub FairCall : Call → Type 0
-    FairCall (Alone x) = IsCell (p x.number).what.kind
+    FairCall (Alone x) = IsTaken (p x.number).what.kind
     FairCall (WithActuals x l (OneExpr e) NoActuals m) = IsFunction (p x.number).what.kind × FairExpr e
     FairCall (WithActuals x l a more m) = ⊥
 
