@@ -1,14 +1,14 @@
 -- The order of `ininteger` does what the procedure means: the number that it reads from the data has its word.
-use Rattle.std.proofs.Common.{◌≡◌, ℕ, zero, suc, ◌+◌, ◌<◌, ◌≤◌, Bool, true, false, ℤ, pos, negsuc, List, [], ◌∷◌, length, refl, ap, ◌∙◌, sym, arith}
-use Rattle.std.specs.Prelude.{◌^◌, ◌&&◌, ◌||◌, ◌==◌, ◌-◌, ◌+ℤ◌, ◌-ℤ◌, ◌*ℤ◌, nat_le, drop, if◌then◌else◌, Result, Ok, Err}
+use Rattle.std.proofs.Common.{◌≡◌, ℕ, ◌+◌, ◌<◌, ◌≤◌, Bool, true, false, ℤ, pos, List, [], ◌∷◌, length, refl, ap, ◌∙◌, arith}
+use Rattle.std.specs.Prelude.{◌^◌, ◌&&◌, ◌==◌, ◌-◌, ◌+ℤ◌, ◌-ℤ◌, ◌*ℤ◌, nat_le, if◌then◌else◌, Result, Ok, Err}
 use Rattle.std.proofs.lemmas.Bool.{lt-ltb, leb-true}
 use Rattle.std.proofs.lemmas.List.{append-nil}
 use Rattle.std.proofs.lemmas.Int.{ints}
 use Rattle.gier_word.specs.declared.alarm.Alarm.{Alarm}
 use Rattle.gier_word.specs.declared.alarm.Alarm.TheVariants.{Data}
-use Rattle.gier_word.specs.Words.{int_of_word, word_of_int}
+use Rattle.gier_word.specs.Words.{word_of_int}
 use Rattle.gier_word.specs.Operations.{is_in_range}
-use Rattle.gier_word.specs.Standard.{Reading, at_end, at_byte, behind_byte, is_digit, is_skipped, with_digit, digits_read, first_digit_read, sign_read, integer_read}
+use Rattle.gier_word.specs.Standard.{Reading, at_byte, behind_byte, is_digit, is_skipped, with_digit, digits_read, first_digit_read, sign_read, integer_read}
 use Rattle.gier_symbol.specs.declared.symbol.Symbol.{Symbol}
 use Rattle.gier_order.specs.declared.operation.Operation.TheVariants as op
 use Rattle.gier_order.specs.Flat.Row.{Regs, On, Ends, Row, plain, behind_ref}

@@ -10,7 +10,6 @@ use Rattle.gier_order.specs.Flat.Row as row
 use Rattle.gier_flat.proofs.StopReport.{stops_here}
 use Rattle.gier_flat.proofs.Values.{line_here}
 use Rattle.gier_flat.proofs.OrderRows.{stopped}
-use Rattle.gier_symbol.specs.declared.symbol.Symbol.{Symbol}
 use Rattle.gier_order.specs.declared.operation.Operation.TheVariants as op
 use Rattle.gier_order.specs.Flat.Row.{Regs, On, Ends, Row, plain, behind_ref, behind_bytes}
 use Rattle.gier_order.specs.Flat.Rows as rows
