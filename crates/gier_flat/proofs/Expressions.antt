@@ -17,14 +17,14 @@ use Rattle.gier_order.specs.Flat.Run.{with_row}
 use Rattle.gier_tree.specs.declared.kind.Kind.{Kind}
 use Rattle.gier_tree.specs.declared.kind.Kind.TheVariants.{IntegerVariable, BooleanVariable, IntegerValue, BooleanValue, InInteger, Abs, Sign}
 use Rattle.gier_tree.specs.Orders as code
-use Rattle.gier_tree.specs.Orders.{Following, Code, order, with_label, define, data_word, new, first_label, number_of, behind_word}
+use Rattle.gier_tree.specs.Orders.{Following, Code, order, with_label, define, data_word, new, first_label, behind_word}
 use Rattle.gier_tree.specs.Object.{address_of}
 use Rattle.gier_tree.specs.Coded.{scopes_of, both, sign_code, number_code, choice, code_expr, code_simple, code_implication, code_disjunction, code_conjunction, code_negation, code_relation, code_arithmetic, code_term, code_factor, code_primary, code_call, call_code, part_of, alone_code, adding_operation, multiplying_operation, comparing_operation}
 use Rattle.gier_tree.specs.Need.{need_expr, need_simple, need_implication, need_disjunction, need_conjunction, need_negation, need_relation, need_arithmetic, need_term, need_factor, need_primary, need_call, call_need, first_need}
 use Rattle.gier_tree.specs.Places.{Placed, Places}
 use Rattle.gier_tree.specs.Trees as tree
 use Rattle.gier_tree.specs.Trees.{OneExpr, NoActuals}
-use Rattle.gier_tree.specs.Trees.{Adding, Add, Subtract, Multiply, Divide, LessThan, AtMost, EqualTo, AtLeast, MoreThan, Unequal, Expr, OneSimple, IfExpr, Simple, OneImplication, Equivalent, Implication, OneDisjunction, Disjunction, OneConjunction, Either, Conjunction, OneNegation, Both, Negation, OneRelation, Negated, Relation, OneArithmetic, Compared, Arithmetic, OneTerm, Signed, Summed, Term, OneFactor, Multiplied, Factor, OnePrimary, Raised, Primary, Numeral, Logical, Bracketed, OneCall, OneElement, Call, Alone, WithActuals}
+use Rattle.gier_tree.specs.Trees.{Add, Subtract, Multiply, Divide, LessThan, AtMost, EqualTo, AtLeast, MoreThan, Unequal, OneSimple, IfExpr, Simple, OneImplication, Equivalent, Implication, OneDisjunction, Disjunction, OneConjunction, Either, Conjunction, OneNegation, Both, Negation, OneRelation, Negated, Relation, OneArithmetic, Compared, Arithmetic, OneTerm, Signed, Summed, Term, OneFactor, Multiplied, Factor, OnePrimary, Raised, Primary, Numeral, Logical, Bracketed, OneCall, OneElement, Call, Alone, WithActuals}
 use Rattle.gier_meaning.specs.Tree.{Operator, Adds, Multiplies, Raises, Compares, Ands, Ors, Implies, Equals, Signs, Nots}
 use Rattle.gier_meaning.specs.Operators as meaning
 use Rattle.gier_meaning.specs.Operators.{apply_operator, apply_prefix}
@@ -298,8 +298,8 @@ module _ (setting : Setting) where
 
       -- ---- the standard functions
 
-      abbrev Called_so : (d : Option Denoted) (e : tree.Expr) (line : ℕ) → State Closure → Outcome Closure ℤ
-      Called_so d e line s = call_of setting.size next d (plain_tree.MoreExprs (expr e) plain_tree.NoExprs) env (λ kinds s1. handed setting.size next kinds (plain_tree.MoreExprs (expr e) plain_tree.NoExprs) env line lives s1) line lives s
+      abbrev CallMeans : (d : Option Denoted) (e : tree.Expr) (line : ℕ) → State Closure → Outcome Closure ℤ
+      CallMeans d e line s = call_of setting.size next d (plain_tree.MoreExprs (expr e) plain_tree.NoExprs) env (λ kinds s1. handed setting.size next kinds (plain_tree.MoreExprs (expr e) plain_tree.NoExprs) env line lives s1) line lives s
 
       one_value : (kind : Kind) (line : ℕ) (r : Outcome Closure ℤ)
           → then_do (then_do (then_do r (λ a s2. Gives (AValue a) s2)) (λ passed s1. Gives (passed ∷ []) s1)) (λ passed s1. standard_passed kind passed line lives s1)
@@ -309,15 +309,15 @@ module _ (setting : Setting) where
       one_value kind line (Stops why stop s1) = refl
 
       function_runs : (kind : Kind) (count : ℕ) (formals : List Kind) (l a : ℕ) (d : Option Denoted) (e : tree.Expr) (line level : ℕ) → IsFunction kind → ((K : Known) (w need : ℕ) (m : Machine) (s : State Closure) → RunInvariant setting.text setting.size K w need env p m s lives → (b : ℕ) → K.frame env p b → Shows setting.text K m.regs.words s.store b kind (record { what = record { kind = kind; count = count; formals = formals }; level = l; address = a }) d)
-          → Gets (need_expr (scopes_of p) e) (code_expr p e level) (λ s. value setting.size next (expr e) env lives s) → Gets (need_expr (scopes_of p) e) (call_code (record { what = record { kind = kind; count = count; formals = formals }; level = l; address = a }) line (part_of p (OneExpr e) ∷ []) level) (λ s. Called_so d e line s)
+          → Gets (need_expr (scopes_of p) e) (code_expr p e level) (λ s. value setting.size next (expr e) env lives s) → Gets (need_expr (scopes_of p) e) (call_code (record { what = record { kind = kind; count = count; formals = formals }; level = l; address = a }) line (part_of p (OneExpr e) ∷ []) level) (λ s. CallMeans d e line s)
       function_runs Abs count formals l a d e line level f shows re K w m s st go le h at here =
           let is_standard : d ≡ Some (AStandard Abs) = shows K w (need_expr (scopes_of p) e) m s h h.sees.0 h.sees.3 in
-          subst (λ d. RefinesOutcome setting.text setting.size ℤ K K.label m s (Behind setting.text setting.size go) m.regs.base m.regs.top (Same setting.text setting.size setting.ends setting.small K) (Called_so d e line s)) (sym is_standard)
+          subst (λ d. RefinesOutcome setting.text setting.size ℤ K K.label m s (Behind setting.text setting.size go) m.regs.base m.regs.top (Same setting.text setting.size setting.ends setting.small K) (CallMeans d e line s)) (sym is_standard)
           (subst (λ u. RefinesOutcome setting.text setting.size ℤ K K.label m s (Behind setting.text setting.size go) m.regs.base m.regs.top (Same setting.text setting.size setting.ends setting.small K) u) (sym (one_value Abs line (value setting.size next (expr e) env lives s)))
           (after_runs setting.text setting.size setting.ends setting.small n env p lives op.Lib 7 (omega arith) (λ x. modulus_of x) line level (need_expr (scopes_of p) e) (code_expr p e) (λ s. value setting.size next (expr e) env lives s) refl (λ e. absurd (omega (arith, e))) (λ m next. modulus_settles setting.text setting.size setting.ends m next) re K w m s st go le h at here))
       function_runs Sign count formals l a d e line level f shows re K w m s st go le h at here =
           let is_standard : d ≡ Some (AStandard Sign) = shows K w (need_expr (scopes_of p) e) m s h h.sees.0 h.sees.3 in
-          subst (λ d. RefinesOutcome setting.text setting.size ℤ K K.label m s (Behind setting.text setting.size go) m.regs.base m.regs.top (Same setting.text setting.size setting.ends setting.small K) (Called_so d e line s)) (sym is_standard)
+          subst (λ d. RefinesOutcome setting.text setting.size ℤ K K.label m s (Behind setting.text setting.size go) m.regs.base m.regs.top (Same setting.text setting.size setting.ends setting.small K) (CallMeans d e line s)) (sym is_standard)
           (subst (λ u. RefinesOutcome setting.text setting.size ℤ K K.label m s (Behind setting.text setting.size go) m.regs.base m.regs.top (Same setting.text setting.size setting.ends setting.small K) u) (sym (one_value Sign line (value setting.size next (expr e) env lives s)))
           (after_runs setting.text setting.size setting.ends setting.small n env p lives op.Lib 8 (omega arith) (λ x. Ok (sign_of x)) line level (need_expr (scopes_of p) e) (code_expr p e) (λ s. value setting.size next (expr e) env lives s) refl (λ e. absurd (omega (arith, e))) (λ m next. sign_settles setting.text setting.size setting.ends m next) re K w m s st go le h at here))
       function_runs kind count formals l a d e line level f shows re K w m s st go le h at here = absurd f

@@ -7,8 +7,7 @@ use Rattle.gier_order.specs.Flat.Run.{one}
 use Rattle.gier_tree.specs.declared.kind.Kind.{Kind}
 use Rattle.gier_tree.specs.declared.kind.Kind.TheVariants.{Label}
 use Rattle.gier_tree.specs.Orders as code
-use Rattle.gier_tree.specs.Orders.{Following, Code, order, with_label, number_of, behind_word}
-use Rattle.gier_tree.specs.Object.{words_of, piece_of}
+use Rattle.gier_tree.specs.Orders.{Following, Code, behind_word}
 use Rattle.gier_tree.specs.Object as object
 use Rattle.gier_tree.specs.Coded.{scopes_of, code_expr}
 use Rattle.gier_tree.specs.Need.{need_expr}
@@ -16,7 +15,6 @@ use Rattle.gier_env.specs.Statements.{run}
 use Rattle.gier_meaning.specs.Tree.{Assign}
 use Rattle.gier_tree.specs.Places.{Placed, Places}
 use Rattle.gier_meaning.specs.Plain.{expr}
-use Rattle.gier_meaning.specs.Tree.{Identifier}
 use Rattle.gier_meaning.specs.Live.{Live}
 use Rattle.gier_meaning.specs.State.{Entity, State}
 use Rattle.gier_meaning.specs.Outcome.{Outcome, Gives, Finished, Done, then_do}
@@ -43,7 +41,7 @@ use Rattle.gier_flat.specs.Fair.{FairLabels, FairStatement, FairStatements, Fair
 use Rattle.gier_flat.proofs.Orders.{defined}
 use Rattle.gier_symbol.specs.declared.tag.Tag.TheVariants.{LabelPlace as LabelPlaceTag}
 use Rattle.gier_symbol.specs.ByTag.{sym as tagged}
-use Rattle.gier_tree.specs.Orders.{define, new, also, no_code, first_label}
+use Rattle.gier_tree.specs.Orders.{define, new, also, first_label}
 use Rattle.gier_tree.specs.Text7.{labels_code, if_code, if_else_code, code_statement, code_statements, code_unconditional, code_basic, code_group, code_conditional}
 use Rattle.gier_tree.specs.Texts.{Where, behind_statement, further}
 use Rattle.gier_tree.specs.Entries.{numbers_unconditional}
@@ -52,7 +50,7 @@ use Rattle.gier_tree.specs.Need.{need_statement, need_statements, need_unconditi
 use Rattle.gier_tree.specs.Trees.{LabelPlace, MkBlock, MkCompound, Statements, NoStatements, MoreStatements, Statement, OneUnconditional, OneConditional, OneLoop, Unconditional, MkUnconditional, Basic, OneGroup, Assign, Jump, CallStatement, Dummy, Conditional, IfThen, IfElse, IfLoop}
 use Rattle.gier_meaning.specs.Plain.{statement, statements, unconditional, basic, conditional, with_labels as with_labels}
 use Rattle.gier_meaning.specs.Tree as plain_tree
-use Rattle.gier_env.specs.Statements.{run, run_all}
+use Rattle.gier_env.specs.Statements.{run_all}
 use Rattle.gier_meaning.specs.Outcome.{either}
 use Rattle.gier_flat.proofs.Setting.{Setting}
 

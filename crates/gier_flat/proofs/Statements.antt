@@ -13,11 +13,11 @@ use Rattle.gier_flat.proofs.OrderRows.{stopped}
 use Rattle.gier_order.specs.declared.operation.Operation.TheVariants as op
 use Rattle.gier_order.specs.Flat.Row.{Regs, On, Ends, Row, plain, behind_ref, behind_bytes}
 use Rattle.gier_order.specs.Flat.Rows as rows
-use Rattle.gier_order.specs.Flat.Rows.{effect, from_base, word_at, gives, goes, stops, pays, on, local}
+use Rattle.gier_order.specs.Flat.Rows.{effect}
 use Rattle.gier_order.specs.Flat.Run.{with_row}
 use Rattle.gier_tree.specs.declared.kind.Kind.{Kind}
 use Rattle.gier_tree.specs.Orders as code
-use Rattle.gier_tree.specs.Orders.{Following, Code, order, with_label, number_of, behind_word}
+use Rattle.gier_tree.specs.Orders.{Following, Code, order, behind_word}
 use Rattle.gier_tree.specs.Coded.{scopes_of, code_expr}
 use Rattle.gier_tree.specs.Need.{need_expr}
 use Rattle.gier_env.specs.Statements.{run}
@@ -25,7 +25,6 @@ use Rattle.gier_meaning.specs.Tree.{Assign}
 use Rattle.gier_tree.specs.Places.{Places}
 use Rattle.gier_tree.specs.Trees.{Expr, Call, Alone, WithActuals, OneExpr, NoActuals}
 use Rattle.gier_meaning.specs.Plain.{expr}
-use Rattle.gier_meaning.specs.Tree.{Identifier}
 use Rattle.gier_meaning.specs.Live.{Live}
 use Rattle.gier_meaning.specs.State.{State}
 use Rattle.gier_meaning.specs.Outcome.{Outcome, Gives, Goes, Stops, Alarmed, Finished, Done, then_do}
@@ -52,7 +51,7 @@ use Rattle.gier_flat.proofs.Expressions.{there, there_after, there_here, test_re
 use Rattle.gier_flat.specs.Fair.{FairStatement, FairStatements, FairUnconditional, FairBasic, FairGroup, FairConditional}
 use Rattle.gier_flat.proofs.Orders.{defined}
 use Rattle.gier_flat.proofs.Numbers.{same_truth}
-use Rattle.gier_tree.specs.Orders.{define, new, also, no_code, first_label}
+use Rattle.gier_tree.specs.Orders.{define, new, also, first_label}
 use Rattle.gier_tree.specs.Text7.{labels_code, if_code, if_else_code, code_statement, code_statements, code_unconditional, code_basic, code_group, code_conditional}
 use Rattle.gier_tree.specs.Texts.{Where, behind_statement, further}
 use Rattle.gier_tree.specs.Entries.{numbers_unconditional}
@@ -61,7 +60,7 @@ use Rattle.gier_tree.specs.Need.{need_statement, need_statements, need_unconditi
 use Rattle.gier_tree.specs.Trees.{LabelPlace, Group, MkBlock, MkCompound, Statements, NoStatements, MoreStatements, Statement, OneUnconditional, OneConditional, OneLoop, Unconditional, MkUnconditional, Basic, OneGroup, Assign, Jump, CallStatement, Dummy, Conditional, IfThen, IfElse, IfLoop}
 use Rattle.gier_meaning.specs.Plain.{statement, statements, unconditional, basic, group, conditional, with_labels}
 use Rattle.gier_meaning.specs.Tree as plain_tree
-use Rattle.gier_env.specs.Statements.{run, run_all}
+use Rattle.gier_env.specs.Statements.{run_all}
 use Rattle.gier_meaning.specs.State.{with_printed}
 use Rattle.gier_tree.specs.declared.kind.Kind.TheVariants.{OutInteger, OutCr, OutChar}
 use Rattle.gier_tree.specs.Coded.{code_call, call_code, alone_code, part_of}
