@@ -27,6 +27,7 @@ IsCell BooleanValue = ⊤
 IsCell kind = ⊥
 
 -- what an identifier alone may be for its value: a variable, a formal by value, or the procedure that reads a number
+-- (not the one that reads a character: what it gives has a word only where the data are bytes, which the law doesn't ask)
 abbrev pub IsTaken : Kind → Type 0
 IsTaken InInteger = ⊤
 IsTaken kind = IsCell kind
