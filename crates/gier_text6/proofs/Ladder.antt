@@ -50,7 +50,7 @@ use_held W p tells x l k a st v F n i =
     use_by W (p x).what.kind (place_number (p x)) (p x).what.count l k a st v F n i
     ∙ ap (λ c. judge k (holding (a_use (p x).what.kind (place_number (p x) % addresses) c n l a) W st v (adds [] (described_use (p x) l) F) (after_use (p x) n) l)) (tells.counts x)
 
-number_told : (level address : ℕ) → (level * 2 ^ 24 + min address greatest_address) % addresses ≡ min address greatest_address
+pub number_told : (level address : ℕ) → (level * 2 ^ 24 + min address greatest_address) % addresses ≡ min address greatest_address
 number_told level address = omega arith
 
 pub told : (W : World) (p : Places) (tells : Tells W p) (x q l : ℕ) (a : Context) → use_described W (the_use (p x) q l a) ≡ (p x).what
@@ -82,7 +82,7 @@ pub total_next : (a : ℕ) (ys : Exprs) → total_exprs (suc a) ys ≡ suc (tota
 total_next a NoExprs = refl
 total_next a (MoreExprs j y ys) = total_next (suc a) ys
 
-total_is : (ys : Exprs) → total_exprs 0 ys ≡ count_exprs ys
+pub total_is : (ys : Exprs) → total_exprs 0 ys ≡ count_exprs ys
 total_is NoExprs = refl
 total_is (MoreExprs j y ys) = total_next 0 ys ∙ ap suc (total_is ys)
 
@@ -94,16 +94,16 @@ pub actuals_next : (a : ℕ) (ys : Actuals) → total_actuals (suc a) ys ≡ suc
 actuals_next a NoActuals = refl
 actuals_next a (MoreActuals j y ys) = actuals_next (suc a) ys
 
-actuals_is : (ys : Actuals) → total_actuals 0 ys ≡ count_actuals ys
+pub actuals_is : (ys : Actuals) → total_actuals 0 ys ≡ count_actuals ys
 actuals_is NoActuals = refl
 actuals_is (MoreActuals j y ys) = actuals_next 0 ys ∙ ap suc (actuals_is ys)
 
 -- actuals: what ends with the first one, and with the others
-abbrev first_by : ℕ → (old fits : Bool) → Bool
+abbrev pub first_by : ℕ → (old fits : Bool) → Bool
 first_by zero b fits = fits
 first_by (suc c) b fits = b
 
-abbrev further_by : ℕ → (fits : Bool) → List TypeFault
+abbrev pub further_by : ℕ → (fits : Bool) → List TypeFault
 further_by zero fits = []
 further_by (suc c) fits = further most_actuals (suc c) fits WrongActual
 
@@ -115,15 +115,15 @@ bytes : (bs : List Byte) (m : ℕ) (k : List Symbol) (W : World) (st : List Open
 bytes [] m k W st v F n l = refl
 bytes (b ∷ bs) m k W st v F n l = bytes bs m k W st v (adds [] (λ w. spell_bytes (b ∷ []) w) F) (suc n) b.line
 
-abbrev value_by : Option Name → Places → Expr → ExprType → ExprType
+abbrev pub value_by : Option Name → Places → Expr → ExprType → ExprType
 value_by None p e v = type_expr (described p) e
 value_by (Some x) p e v = v
 
-abbrev value_behind : Places → Actual → ExprType → ExprType
+abbrev pub value_behind : Places → Actual → ExprType → ExprType
 value_behind p (OneExpr e) v = value_by (name_alone e) p e v
 value_behind p (AString l bs m) v = v
 
-abbrev last_actual : Actual → ℕ
+abbrev pub last_actual : Actual → ℕ
 last_actual (OneExpr e) = last_expr e
 last_actual (AString l bs m) = m
 

@@ -4,3 +4,5 @@ pub mod Closing
 pub mod Ladder
 pub mod Parts
 pub mod FittingParts
+pub mod Assignments
+pub mod Calls

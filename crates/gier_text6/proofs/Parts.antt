@@ -1,15 +1,16 @@
 -- Over the parts of declarations and statements that hold expressions the pass finds their faults and writes text 6.
 use Rattle.std.proofs.Common.{◌≡◌, ◌≤◌, ◌∙◌, ◌++◌, ◌+◌, ℕ, suc, false, List, [], ◌∷◌, refl, sym as back, ap, arith}
+use Rattle.gier_tree.specs.Trees.{NextPair, NextName, MkNames, Segment, MkSegment, Name, Expr, Exprs, NoExprs, MoreExprs, BoundPair, MkPair, Turns, OneValue, StepUntil, WhileTrue, NextTurns}
+use Rattle.gier_tree.specs.Texts.{text_pairs, text_segment, names_as, next_names, text_bound, text_pair, text_switch_element, text_switch_elements, text_turns, text_next_turns}
+use Rattle.gier_tree.specs.declared.construct.Construct.TheVariants.{ArraySegment as MSegment, Bound as MBound, SwitchElement as MElement, ForElement as MForElement, GoTo as MGoTo}
+use Rattle.gier_symbol.specs.declared.tag.Tag.TheVariants.{LeftBracket, RightBracket, Declaring, Step, Until, While, Goto, Colon, Comma}
+use Rattle.gier_symbol.specs.ByTag.{sym, word}
+use Rattle.gier_text6.specs.PlacedParts.{after_pairs, placed_pairs, after_next_names, after_segment, placed_segment, wanted_kinds, within_mark, after_marked, after_jump, placed_jump, placed_target, after_targets, placed_targets, placed_bound, after_pair, placed_pair, after_turns, placed_turns, after_next_turns, placed_next_turns}
 use Rattle.std.specs.Prelude.{◌==◌}
 use Rattle.std.proofs.lemmas.Bool.Decides.{nat_tests}
 use Rattle.gier_symbol.specs.declared.symbol.Symbol.{Symbol}
-use Rattle.gier_symbol.specs.declared.tag.Tag.TheVariants.{Step, Until, While, Goto, Colon, Comma}
-use Rattle.gier_symbol.specs.ByTag.{word}
-use Rattle.gier_tree.specs.declared.construct.Construct.TheVariants.{Bound as MBound, SwitchElement as MElement, ForElement as MForElement, GoTo as MGoTo}
 use Rattle.gier_tree.specs.Lines.{first_expr, last_expr}
 use Rattle.gier_tree.specs.Places.{Places}
-use Rattle.gier_tree.specs.Texts.{text_bound, text_pair, text_switch_element, text_switch_elements, text_turns, text_next_turns}
-use Rattle.gier_tree.specs.Trees.{Name, Expr, Exprs, NoExprs, MoreExprs, BoundPair, MkPair, Turns, OneValue, StepUntil, WhileTrue, NextTurns}
 use Rattle.gier_tree.specs.Written.{opens, shuts, text_expr}
 use Rattle.gier_kinds.specs.ExprFaults.{most_subscripts, too_long}
 use Rattle.gier_kinds.specs.ExprTypes.{type_expr}
@@ -24,7 +25,6 @@ use Rattle.gier_text6.specs.Operators.{level_of}
 use Rattle.gier_text6.specs.PassState.{Open, AtOperand, Choosing, Going, Turning, Repeating, Bounding, InSegment, Plain, World, Found, found, raises, writes}
 use Rattle.gier_text6.specs.PlacedExpressions.{placed_expr}
 use Rattle.gier_text6.specs.PlacedFaults.{on_place}
-use Rattle.gier_text6.specs.PlacedParts.{wanted_kinds, within_mark, after_marked, after_jump, placed_jump, placed_target, after_targets, placed_targets, placed_bound, after_pair, placed_pair, after_turns, placed_turns, after_next_turns, placed_next_turns}
 use Rattle.gier_text6.specs.Positions.{after_expr}
 use Rattle.gier_text6.specs.PurePass.{judge}
 use Rattle.gier_text6.proofs.Closing.{Closes, zero_le}
@@ -54,7 +54,7 @@ closes_while : (W : World) (i : ℕ) (w : List Symbol) → Closes W 1 (word Whil
 closes_while W i w = record { waits = λ t q j b st v F n l h. rw (zero_le (level_of t)) refl; held = λ kind number count q j st v F n l. refl; dropped = λ t q j st v F n l. refl }
 
 -- the faults of an expression rise behind the symbol before it
-rises : (p : Places) (e : Expr) (q n : ℕ) → suc q ≤ n → IsRising (suc q) (after_expr p e n) (placed_expr p e n)
+pub rises : (p : Places) (e : Expr) (q n : ℕ) → suc q ≤ n → IsRising (suc q) (after_expr p e n) (placed_expr p e n)
 rises p e q n h = down (suc q) n (after_expr p e n) (placed_expr p e n) h (fits_expr p e n).rising
 
 jump : (W : World) (os : List Name) (p : Places) (tells : Tells W p) (e : Expr) (i : ℕ) (k : List Symbol) (st : List Open) (v : ExprType) (F : Found) (n l : ℕ)
@@ -127,6 +127,58 @@ pair W os p tells before (MkPair a i b) k st v F q l =
           ∙ ap (λ z. judge k (at W (InSegment (suc before + suc before) ∷ st) tb (found (insert_all (placed_bound p (falls z ListTooLong) b m i) (insert_all (placed_bound p (too_long most_bounds c) a q l) F.faults)) out) (after_marked p b m) (last_expr b))) (odd before)
           ∙ ap (λ z. judge k (at W (InSegment (suc before + suc before) ∷ st) tb (found (insert_all (placed_bound p [] b m i) (insert_all (placed_bound p (falls z ListTooLong) a q l) F.faults)) out) (after_marked p b m) (last_expr b))) (even before)
           ∙ ap (λ G. judge k (at W (InSegment (suc before + suc before) ∷ st) tb (found G out) (after_marked p b m) (last_expr b))) (back (insert_append (placed_bound p (too_long most_subscripts before) a q l) (placed_bound p [] b m i) F.faults));
+    }
+
+abbrev bounds_behind : (before : ℕ) → List NextPair → ℕ
+bounds_behind before [] = before + before
+bounds_behind before (b ∷ bs) = bounds_behind (suc before) bs
+
+pairs : (W : World) (os : List Name) (p : Places) (tells : Tells W p) (before : ℕ) (bs : List NextPair) (k : List Symbol) (st : List Open) (v : ExprType) (F : Found) (n l : ℕ)
+    → Goes W (text_pairs (text_five os) p bs k) k (text_pairs (text_six os) p bs) (InSegment (before + before) ∷ st) (InSegment (bounds_behind before bs) ∷ st) v F n l (after_pairs p bs n) (placed_pairs p before bs n)
+pairs W os p tells before [] k st v F n l = record { value = v; line = l; goes_on = refl }
+pairs W os p tells before (b ∷ bs) k st v F n l =
+    let F1 = writes (word Comma b.comma) F in let m = after_pair p b.pair n in
+    let pb = placed_pair p (too_long most_subscripts before) b.pair n b.comma in
+    let here = pair W os p tells before b.pair (text_pairs (text_five os) p bs k) st v F1 n b.comma in
+    let F2 = adds pb (text_pair (text_six os) p b.pair) F1 in
+    let more = pairs W os p tells (suc before) bs k st here.value F2 m here.line in
+    let out : List Symbol → List Symbol = λ rest. F.out (text_pairs (text_six os) p (b ∷ bs) rest) in
+    record {
+      value = more.value;
+      line = more.line;
+      goes_on = here.goes_on ∙ more.goes_on
+          ∙ ap (λ G. judge k (at W (InSegment (bounds_behind (suc before) bs) ∷ st) more.value (found G out) (after_pairs p bs m) more.line)) (back (insert_append pb (placed_pairs p (suc before) bs m) F.faults));
+    }
+
+abbrev last_name_of : List NextName → ℕ → ℕ
+last_name_of [] l = l
+last_name_of (x ∷ xs) l = last_name_of xs x.name.line
+
+next_names_here : (W : World) (xs : List NextName) (k : List Symbol) (a : ℕ) (st : List Open) (v : ExprType) (F : Found) (n l : ℕ)
+    → judge (next_names Declaring xs k) (at W (InSegment a ∷ st) v F n l) ≡ judge k (at W (InSegment a ∷ st) v (found F.faults (λ r. F.out (next_names Declaring xs r))) (after_next_names xs n) (last_name_of xs l))
+next_names_here W [] k a st v F n l = refl
+next_names_here W (x ∷ xs) k a st v F n l = next_names_here W xs k a st v (writes (sym Declaring x.name.number x.name.line) (writes (word Comma x.comma) F)) (suc (suc n)) x.name.line
+
+segment : (W : World) (os : List Name) (p : Places) (tells : Tells W p) (g : Segment) (k : List Symbol) (st : List Open) (v : ExprType) (F : Found) (n l : ℕ)
+    → Goes W (text_segment (text_five os) p g k) k (text_segment (text_six os) p g) st st v F n l (after_segment p g n) (placed_segment p g n)
+segment W os p tells (MkSegment (MkNames x xs) i b bs j) k st v F n l =
+    let q = after_next_names xs (suc (suc n)) in let m = after_pair p b q in
+    let end = word RightBracket j ∷ shuts MSegment j ∷ k in
+    let to_bs = text_pairs (text_five os) p bs end in
+    let to_b = text_pair (text_five os) p b to_bs in
+    let open_it = opens MSegment x.line in
+    let F0 = writes (sym Declaring x.number x.line) (writes open_it F) in
+    let F1 : Found = found F.faults (λ r. F.out (open_it ∷ names_as Declaring (MkNames x xs) (word LeftBracket i ∷ r))) in
+    let here = pair W os p tells 0 b to_bs st v F1 q i in
+    let F2 = adds (placed_pair p [] b q i) (text_pair (text_six os) p b) F1 in
+    let more = pairs W os p tells 1 bs end st here.value F2 m here.line in
+    let out : List Symbol → List Symbol = λ rest. F.out (text_segment (text_six os) p (MkSegment (MkNames x xs) i b bs j) rest) in
+    record {
+      value = more.value;
+      line = j;
+      goes_on = next_names_here W xs (word LeftBracket i ∷ to_b) 0 st v F0 (suc (suc n)) x.line
+          ∙ here.goes_on ∙ more.goes_on
+          ∙ ap (λ G. judge k (at W st more.value (found G out) (suc (suc (after_pairs p bs m))) j)) (back (insert_append (placed_pair p [] b q i) (placed_pairs p 1 bs m) F.faults));
     }
 
 -- elements of a for list
@@ -207,6 +259,7 @@ parts W os p tells = record {
   target = λ e k st v F q l. record { value = type_expr (described p) e; line = last_expr e; goes_on = target W os p tells e k st v F q l };
   targets = targets W os p tells;
   pair = pair W os p tells;
+  segment = segment W os p tells;
   turns = turns W os p tells;
   next_turns = next_turns W os p tells;
 }

@@ -8,20 +8,21 @@ use Rattle.gier_symbol.specs.ByTag.{word}
 use Rattle.gier_tree.specs.declared.construct.Construct.TheVariants.{GoTo as MGoTo}
 use Rattle.gier_tree.specs.Lines.{last_expr}
 use Rattle.gier_tree.specs.Places.{Places}
-use Rattle.gier_tree.specs.Texts.{text_switch_element, text_switch_elements, text_pair, text_turns, text_next_turns}
-use Rattle.gier_tree.specs.Trees.{Name, Expr, Exprs, BoundPair, NextPair, Turns, NextTurns}
+use Rattle.gier_tree.specs.Texts.{text_segment, text_switch_element, text_switch_elements, text_pair, text_turns}
+use Rattle.gier_tree.specs.Texts.{text_next_turns}
+use Rattle.gier_tree.specs.Trees.{Segment, Name, Expr, Exprs, BoundPair, NextPair, Turns, NextTurns}
+use Rattle.gier_kinds.specs.TypeFaults.{faults_segment, faults_target, faults_targets, faults_pair, faults_pairs, faults_turns}
+use Rattle.gier_text6.specs.PlacedParts.{after_segment, placed_segment, after_marked, after_jump, placed_jump, placed_target}
+use Rattle.gier_text6.specs.PlacedParts.{after_targets, placed_targets, after_pair, placed_pair, after_pairs, placed_pairs}
+use Rattle.gier_text6.specs.PlacedParts.{after_turns, placed_turns, after_next_turns, placed_next_turns}
 use Rattle.gier_tree.specs.Written.{opens, shuts, text_expr}
 use Rattle.gier_kinds.specs.ExprFaults.{most_subscripts, too_long}
-use Rattle.gier_kinds.specs.TypeFaults.{faults_target, faults_targets, faults_pair, faults_pairs, faults_turns}
 use Rattle.gier_kinds.specs.Types.{ExprType}
 use Rattle.gier_text.specs.declared.fault.Fault.{Fault}
 use Rattle.gier_fair.specs.Described.{described}
 use Rattle.gier_text6.specs.JudgedExpressions.{Tells, text_five, text_six, adds, at}
 use Rattle.gier_text6.specs.PassState.{Open, InSegment, Plain, World, Found}
 use Rattle.gier_text6.specs.PlacedFaults.{Fits}
-use Rattle.gier_text6.specs.PlacedParts.{after_marked, after_jump, placed_jump, placed_target, after_targets, placed_targets}
-use Rattle.gier_text6.specs.PlacedParts.{after_pair, placed_pair, after_pairs, placed_pairs, after_turns, placed_turns}
-use Rattle.gier_text6.specs.PlacedParts.{after_next_turns, placed_next_turns}
 use Rattle.gier_text6.specs.PurePass.{judge}
 
 -- over a part the pass goes on with these faults and this text, on another stack; the type and line that it then has don't matter
@@ -47,6 +48,9 @@ pub record PartsAreJudged (W : World) (os : List Name) (p : Places) : Type 0 whe
       → Goes W (text_pair (text_five os) p b k) k (text_pair (text_six os) p b) (InSegment (before + before) ∷ st)
       (InSegment (suc before + suc before) ∷ st) v F (suc q) l (after_pair p b q)
       (placed_pair p (too_long most_subscripts before) b q l)
+  pub segment : (g : Segment) (k : List Symbol) (st : List Open) (v : ExprType) (F : Found) (n l : ℕ)
+      → Goes W (text_segment (text_five os) p g k) k (text_segment (text_six os) p g) st st v F n l (after_segment p g n)
+      (placed_segment p g n)
   pub turns : (u : Turns) (k : List Symbol) (st : List Open) (v : ExprType) (F : Found) (q l : ℕ)
       → Goes W (text_turns (text_five os) p u k) k (text_turns (text_six os) p u) st st v F (suc q) l (after_turns p u q)
       (placed_turns p u q l)
@@ -67,6 +71,7 @@ pub record PartsFit (p : Places) : Type 0 where
       (faults_pair (described p) l (too_long most_subscripts before) b)
   pub pairs : (before : ℕ) (bs : List NextPair) (n : ℕ)
       → Fits n (after_pairs p bs n) (placed_pairs p before bs n) (faults_pairs (described p) before bs)
+  pub segment : (g : Segment) (n : ℕ) → Fits n (after_segment p g n) (placed_segment p g n) (faults_segment (described p) g)
   pub turns : (u : Turns) (q l : ℕ) → Fits q (after_turns p u q) (placed_turns p u q l) (faults_turns (described p) l u)
   pub next_turns : (us : List NextTurns) (n : ℕ)
       → Fits n (after_next_turns p us n) (placed_next_turns p us n)

@@ -12,3 +12,7 @@ pub mod PlacedExpressions
 pub mod JudgedExpressions
 pub mod PlacedParts
 pub mod JudgedParts
+pub mod PlacedAssignments
+pub mod JudgedAssignments
+pub mod PlacedCalls
+pub mod JudgedCalls

@@ -2,8 +2,8 @@
 -- bounds, elements of for lists. A fault of a part falls on the symbol before it, which has this position and line.
 use Rattle.std.specs.Prelude.{◌++◌, ℕ, suc, not, List, [], ◌∷◌}
 use Rattle.gier_tree.specs.Places.{Places}
-use Rattle.gier_tree.specs.Trees.{Expr, Exprs, NoExprs, MoreExprs, BoundPair, MkPair, NextPair, Turns, OneValue, StepUntil}
-use Rattle.gier_tree.specs.Trees.{WhileTrue, NextTurns}
+use Rattle.gier_tree.specs.Trees.{NextName, Names, MkNames, Segment, MkSegment, Expr, Exprs, NoExprs, MoreExprs, BoundPair}
+use Rattle.gier_tree.specs.Trees.{MkPair, NextPair, Turns, OneValue, StepUntil, WhileTrue, NextTurns}
 use Rattle.gier_kinds.specs.ExprFaults.{most_subscripts, too_long}
 use Rattle.gier_kinds.specs.ExprTypes.{type_expr}
 use Rattle.gier_kinds.specs.Faults.{TypeFault, WrongBound, WrongElement, WrongCondition, WrongTarget, falls}
@@ -65,6 +65,22 @@ placed_pairs p before [] n = []
 placed_pairs p before (next ∷ ps) n =
     placed_pair p (too_long most_subscripts before) next.pair n next.comma
     ++ placed_pairs p (suc before) ps (after_pair p next.pair n)
+
+-- identifiers, and a segment of an array declaration from its mark on
+abbrev pub after_next_names : List NextName → ℕ → ℕ
+after_next_names [] n = n
+after_next_names (x ∷ xs) n = after_next_names xs (suc (suc n))
+
+abbrev pub after_names : Names → ℕ → ℕ
+after_names (MkNames x xs) n = after_next_names xs (suc n)
+
+abbrev pub after_segment : Places → Segment → ℕ → ℕ
+after_segment p (MkSegment ns l b bs m) n = suc (suc (after_pairs p bs (after_pair p b (after_names ns (suc n)))))
+
+abbrev pub placed_segment : Places → Segment → ℕ → List Fault
+placed_segment p (MkSegment ns l b bs m) n =
+    let q = after_names ns (suc n) in
+    placed_pair p [] b q l ++ placed_pairs p 1 bs (after_pair p b q)
 
 -- an element of a for list, behind the symbol at this position
 abbrev pub after_turns : Places → Turns → ℕ → ℕ

@@ -11,4 +11,6 @@
 
 mod laws;
 
-pub use laws::{law_judged_expressions, law_judged_parts};
+pub use laws::{
+    law_judged_assignments, law_judged_calls, law_judged_expressions, law_judged_parts,
+};
