@@ -31,7 +31,7 @@ few_written pass t read written h = omega (arith, length_weight written, h.light
 pub ready_more : (pass new : Pass4) (t : TablesModel) (w : ℕ) → StateInvariant pass t 0 → new ≡ record pass { taken = pass.taken + w } → pass.taken + w ≤ 8 * pass.lists.bytes + 64 → StateInvariant new t w
 ready_more pass new t w h e few = rw e (record {
   lists = h.lists;
-  fields = record { end_line = h.fields.end_line; type_line = h.fields.type_line; fresh = h.fields.fresh; procedure = h.fields.procedure };
+  fields = record { frame = h.fields.frame; owned = h.fields.owned; procedure = h.fields.procedure };
   few = few;
   light = omega (arith, h.light);
   entries = omega (arith, h.entries);

@@ -2,3 +2,4 @@ pub mod Weights
 pub mod ListReplacement
 pub mod OpenedLists
 pub mod InvariantSteps
+pub mod GivenKinds

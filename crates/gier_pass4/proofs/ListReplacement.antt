@@ -1,8 +1,8 @@
 -- The lists stay what they are when one of them is replaced.
-use Rattle.std.proofs.Common.{◌<◌, ◌≡◌, ℕ, ◌+◌, ◌≤◌, List, [], ◌∷◌, ◌++◌, length, refl, ap, sym, ◌∙◌, arith, inl, inr, length-append, length-set}
+use Rattle.std.proofs.Common.{◌<◌, ◌≡◌, ℕ, ◌+◌, ◌*◌, ◌≤◌, List, [], ◌∷◌, ◌++◌, length, refl, ap, sym, ◌∙◌, arith, inl, inr, length-append, length-set}
 use Rattle.std.specs.Prelude.{◌≢◌}
 use Rattle.std.proofs.lemmas.Bool.{cases_eq}
-use Rattle.std.proofs.lemmas.List.{get_or-set_same, get_or-set_other}
+use Rattle.std.proofs.lemmas.List.{get_or-set_same, get_or-set_other, length-take-le}
 use Rattle.std.proofs.lemmas.List.Elements.{All-append}
 use Rattle.gier_symbol.specs.declared.symbol.Symbol.{Symbol}
 use Rattle.gier_text.specs.Potential.{potential, potential_of}
@@ -31,53 +31,45 @@ with_queue bytes t i x h lt is = record {
   small = h.small;
   queues = λ k few. queue_at bytes t i x k (omega (arith, h.number)) is (h.queues k few);
   scopes = rw (other_at t i 5 x (λ e. omega arith)) h.scopes;
-  cells = rw (other_at t i 6 x (λ e. omega arith)) h.cells;
-  some_cell = rw (other_at t i 6 x (λ e. omega arith)) h.some_cell;
-  few_cells = rw (other_at t i 6 x (λ e. omega arith)) h.few_cells;
+  specifications = rw (other_at t i 6 x (λ e. omega arith)) h.specifications;
   rows = rw (other_at t i 7 x (λ e. omega arith)) h.rows;
 }
 
--- another list in place of that of scopes, cells or rows
+-- another list in place of that of scopes, specifications or rows
 pub with_scopes : (bytes : ℕ) (t : TablesModel) (x : TableList) → HasLists bytes t → IsTable x 1 (bytes + 2) → HasLists bytes (with_at t 5 x)
 with_scopes bytes t x h is = record {
   number = length-set t.lists 5 x ∙ h.number;
   small = h.small;
   queues = λ k few. rw (other_at t 5 k x (λ e. omega arith)) (h.queues k few);
   scopes = rw (same_at t 5 x (omega (arith, h.number))) is;
-  cells = rw (other_at t 5 6 x (λ e. omega arith)) h.cells;
-  some_cell = rw (other_at t 5 6 x (λ e. omega arith)) h.some_cell;
-  few_cells = rw (other_at t 5 6 x (λ e. omega arith)) h.few_cells;
+  specifications = rw (other_at t 5 6 x (λ e. omega arith)) h.specifications;
   rows = rw (other_at t 5 7 x (λ e. omega arith)) h.rows;
 }
 
-pub with_cells : (bytes : ℕ) (t : TablesModel) (x : TableList) → HasLists bytes t → IsTable x 1 (bytes + 25) → 0 < x.count → x.count ≤ bytes + 25 → HasLists bytes (with_at t 6 x)
-with_cells bytes t x h is some few_cells = record {
+pub with_specifications : (bytes : ℕ) (t : TablesModel) (x : TableList) → HasLists bytes t → IsTable x 1 (bytes + 2) → HasLists bytes (with_at t 6 x)
+with_specifications bytes t x h is = record {
   number = length-set t.lists 6 x ∙ h.number;
   small = h.small;
   queues = λ k few. rw (other_at t 6 k x (λ e. omega arith)) (h.queues k few);
   scopes = rw (other_at t 6 5 x (λ e. omega arith)) h.scopes;
-  cells = rw (same_at t 6 x (omega (arith, h.number))) is;
-  some_cell = rw (same_at t 6 x (omega (arith, h.number))) some;
-  few_cells = rw (same_at t 6 x (omega (arith, h.number))) few_cells;
+  specifications = rw (same_at t 6 x (omega (arith, h.number))) is;
   rows = rw (other_at t 6 7 x (λ e. omega arith)) h.rows;
 }
 
-pub with_rows : (bytes : ℕ) (t : TablesModel) (x : TableList) → HasLists bytes t → IsTable x 2 (bytes + 64) → HasLists bytes (with_at t 7 x)
+pub with_rows : (bytes : ℕ) (t : TablesModel) (x : TableList) → HasLists bytes t → IsTable x 3 (bytes + 64) → HasLists bytes (with_at t 7 x)
 with_rows bytes t x h is = record {
   number = length-set t.lists 7 x ∙ h.number;
   small = h.small;
   queues = λ k few. rw (other_at t 7 k x (λ e. omega arith)) (h.queues k few);
   scopes = rw (other_at t 7 5 x (λ e. omega arith)) h.scopes;
-  cells = rw (other_at t 7 6 x (λ e. omega arith)) h.cells;
-  some_cell = rw (other_at t 7 6 x (λ e. omega arith)) h.some_cell;
-  few_cells = rw (other_at t 7 6 x (λ e. omega arith)) h.few_cells;
+  specifications = rw (other_at t 7 6 x (λ e. omega arith)) h.specifications;
   rows = rw (same_at t 7 x (omega (arith, h.number))) is;
 }
 
 same_load : (t : TablesModel) (i j : ℕ) (x : TableList) → j ≢ i → potential_stored (with_at t i x) j ≡ potential_stored t j
 same_load t i j x ne = ap (λ (l : TableList). potential 4 (outbox_symbols l)) (other_at t i j x ne)
 
--- no symbol waits in the lists of scopes, cells and rows
+-- no symbol waits in the lists of scopes, specifications and rows
 pub table_grows : (t u : TablesModel) (i : ℕ) (x : TableList) → 5 ≤ i → u ≡ with_at t i x → Grows t u 0 0 0 0 0
 table_grows t u i x le e = rw e (record {
   out = omega (arith, same_load t i 0 x (λ e. omega arith));
@@ -92,10 +84,11 @@ pub no_grows : (t : TablesModel) → Grows t t 0 0 0 0 0
 no_grows t = record { out = omega arith; entries = omega arith; own_entries = omega arith; owns = omega arith; formals = omega arith; limit = refl }
 
 -- a queue with one more letter
-pub queue_more : (bytes room : ℕ) (old new : TableList) (s : Symbol) → IsQueue bytes old room → new.width ≡ old.width → new.capacity ≡ old.capacity → new.count ≡ old.count + 1 → outbox_symbols new ≡ outbox_symbols old ++ s ∷ [] → IsLetter bytes s → IsQueue bytes new room
-queue_more bytes room old new s is width capacity count waits letter = record {
+pub queue_more : (bytes room : ℕ) (old new : TableList) (s : Symbol) → IsQueue bytes old room → new.width ≡ old.width → new.capacity ≡ old.capacity → new.count ≡ old.count + 1 → length new.words ≡ length old.words + 2 → outbox_symbols new ≡ outbox_symbols old ++ s ∷ [] → IsLetter bytes s → IsQueue bytes new room
+queue_more bytes room old new s is width capacity count words waits letter = record {
   width = width ∙ is.width;
   capacity = capacity ∙ is.capacity;
+  words = omega (arith, words, is.words, count);
   whole = rw waits (omega (arith, is.whole, count, length-append (outbox_symbols old) (s ∷ [])));
   letters = rw waits (All-append (IsLetter bytes) (outbox_symbols old) (s ∷ []) is.letters (λ k d lt. let none : k ≡ 0 = omega arith in rw none letter));
 }
@@ -108,16 +101,17 @@ pub queue_cut : (bytes room : ℕ) (list : TableList) (n : ℕ) → IsQueue byte
 queue_cut bytes room list n is le = record {
   width = is.width;
   capacity = is.capacity;
+  words = let wide : list.width * n ≡ 2 * n = ap (λ (w : ℕ). w * n) is.width in rw wide (length-take-le (2 * n) list.words (omega (arith, is.words, le)));
   whole = rw (waiting_cut list n is.width) (until_whole list n list.count le is.whole);
   letters = rw (waiting_cut list n is.width) (until_all (IsLetter bytes) list n list.count le is.letters);
 }
 
 -- one more letter in a queue
-pub put_lists : (bytes : ℕ) (t u : TablesModel) (i : ℕ) (code : List ℕ) (s : Symbol) → HasLists bytes t → i < 5 → u ≡ with_at t i (with_entry (list_at t.lists i) code) → outbox_symbols (list_at u.lists i) ≡ outbox_symbols (list_at t.lists i) ++ s ∷ [] → IsLetter bytes s → HasLists bytes u
-put_lists bytes t u i code s h lt e waits letter =
+pub put_lists : (bytes : ℕ) (t u : TablesModel) (i : ℕ) (code : List ℕ) (s : Symbol) → HasLists bytes t → i < 5 → length code ≡ 2 → u ≡ with_at t i (with_entry (list_at t.lists i) code) → outbox_symbols (list_at u.lists i) ≡ outbox_symbols (list_at t.lists i) ++ s ∷ [] → IsLetter bytes s → HasLists bytes u
+put_lists bytes t u i code s h lt two e waits letter =
     let there : list_at u.lists i ≡ with_entry (list_at t.lists i) code = ap (λ (k : TablesModel). list_at k.lists i) e ∙ same_at t i (with_entry (list_at t.lists i) code) (omega (arith, h.number)) in
     let more : outbox_symbols (with_entry (list_at t.lists i) code) ≡ outbox_symbols (list_at t.lists i) ++ s ∷ [] = sym (ap outbox_symbols there) ∙ waits in
-    rw e (with_queue bytes t i (with_entry (list_at t.lists i) code) h lt (queue_more bytes (room_of bytes i) (list_at t.lists i) (with_entry (list_at t.lists i) code) s (h.queues i lt) refl refl refl more letter))
+    rw e (with_queue bytes t i (with_entry (list_at t.lists i) code) h lt (queue_more bytes (room_of bytes i) (list_at t.lists i) (with_entry (list_at t.lists i) code) s (h.queues i lt) refl refl refl (omega (arith, two, length-append (list_at t.lists i).words code)) more letter))
 
 pub put_adds : (t u : TablesModel) (i : ℕ) (x : TableList) (s : Symbol) → u ≡ with_at t i x → outbox_symbols (list_at u.lists i) ≡ outbox_symbols (list_at t.lists i) ++ s ∷ [] → Adds i (potential_of 4 s.tag) t u
 put_adds t u i x s e waits = record {
@@ -158,7 +152,7 @@ cut_moves t u v from to base lt apart wide source le moved others limit e =
       limit = ap (λ (k : TablesModel). k.limit) e ∙ limit;
     }
 
--- one more entry in a list of scopes, cells or rows
+-- one more entry in a list of scopes, specifications or rows
 pub fills_more : (i : ℕ) (t u v : TablesModel) (entry : List ℕ) → i < length u.lists → Fills i t u → v ≡ with_at u i (with_entry (list_at u.lists i) entry) → Fills i t v
 fills_more i t u v entry lt h e =
     let there : list_at v.lists i ≡ with_entry (list_at u.lists i) entry = ap (λ (k : TablesModel). list_at k.lists i) e ∙ same_at u i (with_entry (list_at u.lists i) entry) lt in

@@ -5,7 +5,10 @@ use Rattle.gier_text.specs.TablesModel.{TablesModel}
 use Rattle.gier_text.specs.Potential.{is_number_in, potential}
 use Rattle.gier_pass4.specs.declared.owns.Frame.{Frame}
 use Rattle.gier_pass4.specs.declared.owns.Frame.TheVariants.{Nothing, Whole, Beginning}
+use Rattle.gier_pass4.specs.declared.owns.Owned.{Owned}
+use Rattle.gier_pass4.specs.declared.owns.Owned.TheVariants.{Yes}
 use Rattle.gier_pass4.specs.declared.pass.Pass4.{Pass4}
+use Rattle.gier_pass4.specs.Kinds.{procedure_of}
 use Rattle.gier_pass4.specs.Lists.{HasLists, IsLetter, potential_stored}
 
 -- the number of an identifier of the program or of an own quantity
@@ -19,8 +22,18 @@ IsNameIn bytes (Some n) = IsName bytes n
 -- how many symbols of the block around the program are still to be written
 abbrev pub rest_of : Frame → ℕ
 rest_of Nothing = 0
-rest_of Whole = 4
+rest_of (Whole line) = 4
 rest_of Beginning = 2
+
+-- the line of the end of the block around the program
+abbrev pub HasLine : Frame → Type 0
+HasLine (Whole line) = line < 2 ^ 24
+HasLine frame = Unit {0}
+
+-- the next own quantity has an identifier, and its type a line
+abbrev pub IsOwnIn : ℕ → Owned → Type 0
+IsOwnIn bytes (Yes own) = IsName bytes own.fresh × (own.type_line < 2 ^ 24)
+IsOwnIn bytes owned = Unit {0}
 
 -- how many symbols the procedure's own entry will have
 abbrev pub entry_of : Option ℕ → ℕ
@@ -30,14 +43,13 @@ entry_of (Some n) = 2
 -- what weighs that which is still to be written for the symbols that were taken
 abbrev pub potential_held : Pass4 → TablesModel → ℕ
 potential_held pass t = potential_stored t 0 + potential_stored t 1 + potential_stored t 2 + potential_stored t 3
-    + potential_stored t 4 + rest_of pass.frame + entry_of pass.procedure
+    + potential_stored t 4 + rest_of pass.frame + entry_of (procedure_of pass.place)
 
 -- what the fields say fits texts
 pub record HasFields (pass : Pass4) : Type 0 where
-  pub end_line : pass.end_line < 2 ^ 24
-  pub type_line : pass.type_line < 2 ^ 24
-  pub fresh : IsName pass.lists.bytes pass.fresh
-  pub procedure : IsNameIn pass.lists.bytes pass.procedure
+  pub frame : HasLine pass.frame
+  pub owned : IsOwnIn pass.lists.bytes pass.owned
+  pub procedure : IsNameIn pass.lists.bytes (procedure_of pass.place)
 
 -- the lists have room for what the symbols that were taken come to, and for so much more as the last one weighs
 pub record StateInvariant (pass : Pass4) (t : TablesModel) (spare : ℕ) : Type 0 where
@@ -45,7 +57,7 @@ pub record StateInvariant (pass : Pass4) (t : TablesModel) (spare : ℕ) : Type 
   pub fields : HasFields pass
   pub few : pass.taken ≤ 8 * pass.lists.bytes + 64
   pub light : potential_held pass t + spare ≤ pass.taken
-  pub entries : 4 * (potential_stored t 1 + potential_stored t 4 + entry_of pass.procedure) + 3 * spare ≤ 3 * pass.taken
+  pub entries : 4 * (potential_stored t 1 + potential_stored t 4 + entry_of (procedure_of pass.place)) + 3 * spare ≤ 3 * pass.taken
   pub own_entries : 2 * potential_stored t 2 + spare ≤ pass.taken
   pub formals : 4 * potential_stored t 4 + spare ≤ pass.taken
 

@@ -1,5 +1,5 @@
--- What the words before identifiers say of their kind.
-use Rattle.std.specs.Prelude.{ℕ}
+-- What the words before identifiers say of their kind, and of the place and the declaration in which they stand.
+use Rattle.std.specs.Prelude.{ℕ, Option, None}
 use Rattle.gier_symbol.specs.declared.tag.Tag.{Tag}
 use Rattle.gier_symbol.specs.declared.tag.Tag.TheVariants.{Integer as IntegerWord, Boolean as BooleanWord, Array as ArrayWord}
 use Rattle.gier_symbol.specs.declared.tag.Tag.TheVariants.{Switch as SwitchWord, Procedure as ProcedureWord}
@@ -11,11 +11,11 @@ use Rattle.gier_tree.specs.declared.kind.Kind.TheVariants.{BooleanValue, Integer
 use Rattle.gier_tree.specs.declared.kind.Kind.TheVariants.{BooleanArrayFormal, LabelFormal, SwitchFormal, StringFormal}
 use Rattle.gier_tree.specs.declared.kind.Kind.TheVariants.{ProcedureFormal, IntegerProcedureFormal, BooleanProcedureFormal}
 use Rattle.gier_pass4.specs.declared.marks.ParseState.{ParseState}
-use Rattle.gier_pass4.specs.declared.marks.ParseState.TheVariants.{TypeDeclaration as InType, Heading}
+use Rattle.gier_pass4.specs.declared.marks.ParseState.TheVariants.{Heading}
 use Rattle.gier_pass4.specs.declared.owns.Frame.{Frame}
 use Rattle.gier_pass4.specs.declared.owns.Frame.TheVariants.{Beginning}
 use Rattle.gier_pass4.specs.declared.owns.Owned.{Owned}
-use Rattle.gier_pass4.specs.declared.owns.Owned.TheVariants.{No, Unknown as MayBe}
+use Rattle.gier_pass4.specs.declared.owns.Owned.TheVariants.{No, Unknown as MayBe, Yes}
 
 -- the kind of a formal that stands in the value list
 abbrev pub by_value : Kind → Kind
@@ -51,18 +51,31 @@ specified_by behind StringWord = StringFormal
 specified_by behind LabelWord = LabelFormal
 specified_by behind _ = behind
 
-abbrev pub typed_by : Kind → Kind → Kind → Tag → Kind
-typed_by one other behind IntegerWord = one
-typed_by one other behind BooleanWord = other
-typed_by one other behind _ = behind
+-- the kind of variables and of arrays with this type
+abbrev pub variable_by : Tag → Kind
+variable_by BooleanWord = BooleanVariable
+variable_by _ = IntegerVariable
 
--- the kind that a word gives to the identifiers behind it
-abbrev pub kind_by_word : ParseState → Kind → Tag → Kind
-kind_by_word Heading behind given = specified_by behind given
-kind_by_word InType behind given = typed_by IntegerVariable BooleanVariable behind given
-kind_by_word place behind given = typed_by IntegerArray BooleanArray behind given
+abbrev pub array_by : Tag → Kind
+array_by BooleanWord = BooleanArray
+array_by _ = IntegerArray
+
+-- the procedure whose heading is being read, where its identifier was read
+abbrev pub procedure_of : ParseState → Option ℕ
+procedure_of (Heading kind x) = x
+procedure_of place = None
+
+-- the place behind a word, where that is one of a specification
+abbrev pub said_at : ParseState → Tag → ParseState
+said_at (Heading kind x) given = Heading (specified_by kind given) x
+said_at place given = place
 
 -- whether it is known of a declaration that it is an own one, where it begins at its end
 abbrev pub owned_at : Frame → Owned → Owned
 owned_at Beginning No = MayBe
 owned_at frame owned = owned
+
+-- the same once a type with this line was read
+abbrev pub typed_at : Owned → (line : ℕ) → Owned
+typed_at (Yes own) line = Yes (record { fresh = own.fresh; type_line = line })
+typed_at owned line = owned

@@ -1,6 +1,6 @@
 -- The lists of the pass: how many entries they have room for, what they may hold, and how heavy that is.
 -- Symbols wait in the lists 0 to 4: those to be written, entries, entries of own quantities, own declarations, and descriptions of
--- formals. The lists 5 to 7 are those of scopes, cells of kinds, and rows of identifiers.
+-- formals. The lists 5 to 7 are those of scopes, kinds of specifications, and rows of identifiers.
 use Rattle.std.specs.Prelude.{◌≡◌, ◌≢◌, ◌<◌, ◌≤◌, ◌+◌, ◌*◌, ◌==◌, ℕ, List, [], ◌∷◌, ◌++◌, All, IsTrue, length, if◌then◌else◌}
 use Rattle.gier_symbol.specs.declared.symbol.Symbol.{Symbol}
 use Rattle.gier_symbol.specs.Symbols.{IsSymbol}
@@ -28,6 +28,7 @@ room_of bytes list =
 pub record IsQueue (bytes : ℕ) (list : TableList) (room : ℕ) : Type 0 where
   pub width : list.width ≡ 2
   pub capacity : list.capacity ≡ room
+  pub words : length list.words ≡ 2 * list.count
   pub whole : length (outbox_symbols list) ≡ list.count
   pub letters : All (IsLetter bytes) (outbox_symbols list)
 
@@ -35,16 +36,14 @@ pub record IsTable (list : TableList) (words room : ℕ) : Type 0 where
   pub width : list.width ≡ words
   pub capacity : list.capacity ≡ room
 
--- there are these lists, and at least one cell
+-- there are these lists
 pub record HasLists (bytes : ℕ) (t : TablesModel) : Type 0 where
   pub number : length t.lists ≡ 8
   pub small : bytes ≤ 524288
   pub queues : (k : ℕ) → k < 5 → IsQueue bytes (list_at t.lists k) (room_of bytes k)
   pub scopes : IsTable (list_at t.lists 5) 1 (bytes + 2)
-  pub cells : IsTable (list_at t.lists 6) 1 (bytes + 25)
-  pub some_cell : 0 < (list_at t.lists 6).count
-  pub few_cells : (list_at t.lists 6).count ≤ bytes + 25
-  pub rows : IsTable (list_at t.lists 7) 2 (bytes + 64)
+  pub specifications : IsTable (list_at t.lists 6) 1 (bytes + 2)
+  pub rows : IsTable (list_at t.lists 7) 3 (bytes + 64)
 
 -- what the symbols weigh that wait in a list
 abbrev pub potential_stored : TablesModel → ℕ → ℕ
@@ -63,7 +62,7 @@ pub record Copies (from to w : ℕ) (old new : TablesModel) : Type 0 where
   pub others : (k : ℕ) → k ≢ to → potential_stored new k ≡ potential_stored old k
   pub limit : new.limit ≡ old.limit
 
--- a list of scopes, cells or rows gets entries, and nothing else changes
+-- a list of scopes, specifications or rows gets entries, and nothing else changes
 pub record Fills (list : ℕ) (old new : TablesModel) : Type 0 where
   pub number : length new.lists ≡ length old.lists
   pub width : (list_at new.lists list).width ≡ (list_at old.lists list).width
@@ -81,7 +80,7 @@ queues bytes = empty_list 2 (8 * bytes + 64) ∷ empty_list 2 (6 * bytes + 48) �
     ∷ empty_list 2 (8 * bytes + 64) ∷ empty_list 2 (2 * bytes + 16) ∷ []
 
 abbrev pub lists_when_opened : ℕ → List TableList
-lists_when_opened bytes = queues bytes ++ empty_list 1 (bytes + 2) ∷ empty_list 1 (bytes + 25) ∷ empty_list 2 (bytes + 64) ∷ []
+lists_when_opened bytes = queues bytes ++ empty_list 1 (bytes + 2) ∷ empty_list 1 (bytes + 2) ∷ empty_list 3 (bytes + 64) ∷ []
 
 -- the symbols behind the first `base` entries of a list move to another, and no other list changes its weight
 pub record Moves (from to base : ℕ) (old new : TablesModel) : Type 0 where

@@ -1,23 +1,10 @@
-// Kinds of identifiers, and the list of those that are found only behind the identifiers: the text is read backward.
-//
-// The identifiers of one declaration or specification refer to a cell of the list, in which their kind stands once the words
-// before them were read. Each `;` begins a cell, since one ends each declaration and specification. The first cells hold the
-// kinds themselves, each the one with its own number.
-ghost use Rattle.std.specs.Prelude.{◌≡◌, ◌<◌, ◌≤◌, length};
-ghost use Rattle.gier_text.specs.TablesModel.{tables_model};
-ghost use Rattle.gier_text.specs.Lists.{list_at};
-ghost use Rattle.gier_pass4.specs.Kinds.{by_value, declared_by, integer_before, boolean_before, specified_by, typed_by};
-ghost use Rattle.gier_pass4.specs.Kinds.{kind_by_word};
-ghost use Rattle.gier_pass4.specs.Lists.{HasLists, Fills, Grows};
+// What words say of the kinds of identifiers. The text is read backward: of a specification the last word comes first.
+ghost use Rattle.std.specs.Prelude.{◌≡◌};
+ghost use Rattle.gier_pass4.specs.Kinds.{by_value, declared_by, integer_before, boolean_before, specified_by};
+ghost use Rattle.gier_pass4.specs.Kinds.{variable_by, array_by};
 
-use crate::lists::{CELLS, Lists};
-use crate::marks::ParseState;
 use gier_symbol::Tag;
-use gier_text::Tables;
 use gier_tree::Kind;
-
-/// How many cells hold the kinds themselves.
-pub(crate) const FIXED_CELLS: u32 = 23;
 
 /// The kind of a formal that stands in the value list.
 pub(crate) fn by_value(kind: Kind) -> Kind
@@ -63,8 +50,8 @@ fn boolean_before(behind: Kind) -> Kind
     }
 }
 
-// The kind that a word of a specification gives, where those behind it gave this one.
-fn specified(behind: Kind, word: Tag) -> Kind
+/// The kind that a word of a specification gives, where those behind it gave this one.
+pub(crate) fn specified(behind: Kind, word: Tag) -> Kind
     ensures { result ≡ specified_by behind word }
 {
     match word {
@@ -79,87 +66,22 @@ fn specified(behind: Kind, word: Tag) -> Kind
     }
 }
 
-/// The kind that a word gives to the identifiers behind it, where the words between gave this one.
-pub(crate) fn with_word(place: ParseState, behind: Kind, word: Tag) -> Kind
-    ensures { result ≡ kind_by_word place behind word }
-{
-    match place {
-        ParseState::Heading => specified(behind, word),
-        ParseState::TypeDeclaration => typed(
-            Kind::IntegerVariable,
-            Kind::BooleanVariable,
-            behind,
-            word,
-        ),
-        _ => typed(Kind::IntegerArray, Kind::BooleanArray, behind, word),
-    }
-}
-
-// The kind that a type gives.
-fn typed(integer: Kind, boolean: Kind, behind: Kind, word: Tag) -> Kind
-    ensures { result ≡ typed_by integer boolean behind word }
+/// The kind of variables with this type.
+pub(crate) fn variable_kind(word: Tag) -> Kind
+    ensures { result ≡ variable_by word }
 {
     match word {
-        Tag::Integer => integer,
-        Tag::Boolean => boolean,
-        _ => behind,
+        Tag::Boolean => Kind::BooleanVariable,
+        _ => Kind::IntegerVariable,
     }
 }
 
-/// Fills the first cells of the list, which must be empty.
-pub(crate) fn fill(tables: &mut Tables)
-    requires open { 6 < length (tables_model tables.old).lists }
-    requires width { (list_at (tables_model tables.old).lists 6).width ≡ 1 }
-    requires empty { (list_at (tables_model tables.old).lists 6).count ≡ 0 }
-    requires room { 23 ≤ (list_at (tables_model tables.old).lists 6).capacity }
-    ensures fills { Fills 6 (tables_model tables.old) (tables_model tables.new) }
-    ensures count { (list_at (tables_model tables.new).lists 6).count ≡ 23 }
+/// The kind of arrays with this type.
+pub(crate) fn array_kind(word: Tag) -> Kind
+    ensures { result ≡ array_by word }
 {
-    for kind in 0..FIXED_CELLS {
-        tables.push(CELLS, &[u64::from(kind)]);
-    }
-}
-
-impl Lists {
-    /// Begins a cell. Where there is no room, the last one serves again.
-    pub(crate) fn begin_cell(self, tables: &mut Tables)
-        requires { HasLists self.bytes (tables_model tables.old) }
-        ensures lists { HasLists self.bytes (tables_model tables.new) }
-        ensures grows { Grows (tables_model tables.old) (tables_model tables.new) 0 0 0 0 0 }
-    {
-        if tables.len(CELLS) >= self.most_cells() {
-            return;
-        }
-        tables.push(CELLS, &[Kind::Undeclared.number()]);
-    }
-
-    /// The number of the last cell.
-    pub(crate) fn last_cell(self, tables: &Tables) -> u32
-        requires { HasLists self.bytes (tables_model tables.now) }
-        ensures { result < (list_at (tables_model tables.now).lists 6).count }
-    {
-        tables.len(CELLS) - 1
-    }
-
-    /// What stands in a cell; Undeclared where there is no such cell, or no kind has its number.
-    pub(crate) fn kind_in(self, tables: &Tables, cell: u64) -> Kind
-        requires { HasLists self.bytes (tables_model tables.now) }
-    {
-        if cell < u64::from(tables.len(CELLS)) {
-            Kind::of(tables.word(CELLS, cell as u32, 0)).unwrap_or(Kind::Undeclared)
-        } else {
-            Kind::Undeclared
-        }
-    }
-
-    /// Changes the last cell for a word that was read.
-    pub(crate) fn read_word(self, tables: &mut Tables, place: ParseState, word: Tag)
-        requires { HasLists self.bytes (tables_model tables.old) }
-        ensures lists { HasLists self.bytes (tables_model tables.new) }
-        ensures grows { Grows (tables_model tables.old) (tables_model tables.new) 0 0 0 0 0 }
-    {
-        let cell = self.last_cell(tables);
-        let kind = with_word(place, self.kind_in(tables, u64::from(cell)), word);
-        tables.set_word(CELLS, cell, 0, kind.number());
+    match word {
+        Tag::Boolean => Kind::BooleanArray,
+        _ => Kind::IntegerArray,
     }
 }

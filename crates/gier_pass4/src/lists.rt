@@ -6,7 +6,7 @@ ghost use Rattle.gier_text.specs.Potential.{is_name, is_number_in, potential_of}
 ghost use Rattle.gier_text.specs.TablesModel.{tables_model, fresh};
 ghost use Rattle.gier_pass4.specs.Lists.{HasLists, IsLetter, Adds, Grows, potential_stored, lists_when_opened, queues, room_of};
 
-use crate::{kinds, names};
+use crate::names;
 use gier_limits::STANDARD_NAMES;
 use gier_symbol::{Symbol, Tag};
 use gier_text::{OUTBOX_WIDTH, Tables, put};
@@ -15,7 +15,7 @@ use gier_text::{OUTBOX_WIDTH, Tables, put};
 pub(crate) const OUT: u8 = 0;
 
 /// The entries of the scopes that are open, as they are to be written: the last identifier's come first, and each entry stands
-/// behind its description and count. A description has the number of the kind's cell as value.
+/// behind its description and count. Until the type of its declaration is read, a description has the value 0.
 pub(crate) const ENTRIES: u8 = 1;
 
 /// The entries of the own quantities, in the same form.
@@ -30,8 +30,8 @@ pub(crate) const FORMALS: u8 = 4;
 /// For each scope that is open how many entries there were when it began.
 pub(crate) const SCOPES: u8 = 5;
 
-/// The cells of kinds.
-pub(crate) const CELLS: u8 = 6;
+/// The kinds of the specifications of the heading that is being read, but for the one that is being read.
+pub(crate) const SPECIFICATIONS: u8 = 6;
 
 /// The rows of identifiers.
 pub(crate) const ROWS: u8 = 7;
@@ -61,7 +61,6 @@ impl Lists {
         let lists = Lists { bytes };
         lists.open_queues(tables);
         lists.open_tables(tables);
-        kinds::fill(tables);
         names::fill(tables, lists.most_names());
         lists
     }
@@ -83,7 +82,7 @@ impl Lists {
         tables.list(OUTBOX_WIDTH, 2 * self.bytes + 16);
     }
 
-    // Opens the lists of scopes, cells and rows.
+    // Opens the lists of scopes, specifications and rows.
     fn open_tables(self, tables: &mut Tables)
         requires lists { (tables_model tables.old).lists ≡ queues self.bytes }
         requires used { (tables_model tables.old).used ≡ 56 * self.bytes + 448 }
@@ -94,8 +93,8 @@ impl Lists {
         ensures limit { (tables_model tables.new).limit ≡ (tables_model tables.old).limit }
     {
         tables.list(1, self.most_scopes());
-        tables.list(1, self.most_cells());
-        tables.list(2, self.most_names());
+        tables.list(1, self.most_specifications());
+        tables.list(3, self.most_names());
     }
 
     /// What a text weighs at most.
@@ -114,12 +113,12 @@ impl Lists {
         self.bytes + 2
     }
 
-    /// How many cells there are at most.
-    pub(crate) fn most_cells(self) -> u32
+    /// How many specifications of a heading there are at most.
+    pub(crate) fn most_specifications(self) -> u32
         requires { self.bytes ≤ 524288 }
-        ensures { result ≡ self.bytes + 25 }
+        ensures { result ≡ self.bytes + 2 }
     {
-        kinds::FIXED_CELLS + self.bytes + 2
+        self.bytes + 2
     }
 
     /// How many identifiers there are at most.

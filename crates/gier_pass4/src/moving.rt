@@ -1,35 +1,19 @@
 // Symbols move from one list of the pass to another.
-ghost use Rattle.std.specs.Prelude.{◌≡◌, ◌≢◌, ◌<◌, ◌≤◌, ◌+◌, ◌*◌, ◌^◌, IsTrue, IfSome, length, min};
-ghost use Rattle.gier_symbol.specs.Symbols.{IsSymbol};
-ghost use Rattle.gier_text.specs.Potential.{is_name, potential};
+ghost use Rattle.std.specs.Prelude.{◌≡◌, ◌≢◌, ◌<◌, ◌≤◌, ◌+◌, ◌*◌, ◌^◌, IfSome, length, min};
+ghost use Rattle.gier_text.specs.Potential.{potential};
 ghost use Rattle.gier_text.specs.TablesModel.{tables_model};
 ghost use Rattle.gier_text.specs.Lists.{list_at};
 ghost use Rattle.gier_text.specs.Outbox.{if_any, symbol_at};
 ghost use Rattle.gier_pass4.specs.Lists.{HasLists, IsLetter, Copies, Moves, potential_stored, room_of};
 
 use crate::lists::{ENTRIES, FORMALS, Lists, OUT, OWN_ENTRIES, OWNS};
-use gier_symbol::{Symbol, Tag};
+use gier_symbol::Symbol;
 use gier_text::{Tables, waiting_at};
 use std::cmp;
 
 impl Lists {
-    // A description as it is to be written: its kind is known now.
-    fn value_of(self, tables: &Tables, s: Symbol) -> u64
-        requires lists { HasLists self.bytes (tables_model tables.now) }
-        requires symbol { IsSymbol s }
-        ensures small { result < 2 ^ 40 }
-        ensures name { IsTrue (is_name s.tag) → result ≡ s.value }
-    {
-        if s.tag == Tag::Description.number() {
-            self.kind_in(tables, s.value).number()
-        } else {
-            s.value
-        }
-    }
-
     // A symbol as it is to be written, where it stands among the entries behind a mark of this line.
-    fn completed(self, tables: &Tables, s: Symbol, line: Option<u32>) -> Symbol
-        requires lists { HasLists self.bytes (tables_model tables.now) }
+    fn completed(self, s: Symbol, line: Option<u32>) -> Symbol
         requires letter { IsLetter self.bytes s }
         requires line { IfSome line (λ n. n < 2 ^ 24) }
         ensures letter { IsLetter self.bytes result }
@@ -38,7 +22,7 @@ impl Lists {
         match line {
             Some(line) => Symbol {
                 tag: s.tag,
-                value: self.value_of(tables, s),
+                value: s.value,
                 line,
             },
             None => s,
@@ -61,14 +45,14 @@ impl Lists {
     {
         match waiting_at(tables, from, at) {
             Some(symbol) => {
-                let symbol = self.completed(tables, symbol, line);
+                let symbol = self.completed(symbol, line);
                 self.put(tables, to, symbol);
             }
             None => {}
         }
     }
 
-    // Moves what waits in a list from this place on behind what waits in another; entries get their line and kinds.
+    // Moves what waits in a list from this place on behind what waits in another; entries get their line.
     fn shift(self, tables: &mut Tables, from: u8, base: u32, to: u8, line: Option<u32>)
         requires lists { HasLists self.bytes (tables_model tables.old) }
         requires from { from < 5 }

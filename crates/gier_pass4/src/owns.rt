@@ -2,12 +2,12 @@
 //
 // Whether a declaration is an own one is known only at its first identifier, reading backward. What stands behind that is held back
 // in the list of what is to be written.
-ghost use Rattle.std.specs.Prelude.{◌≡◌, ◌<◌, ◌^◌, ◌+◌};
+ghost use Rattle.std.specs.Prelude.{◌≡◌, ◌<◌, ◌^◌, ◌+◌, IfSome};
 ghost use Rattle.gier_symbol.specs.Tags.{number_of};
 ghost use Rattle.gier_symbol.specs.declared.tag.Tag.TheVariants.{Declaring, OpenMark, ShutMark};
 ghost use Rattle.gier_text.specs.Potential.{potential_of};
 ghost use Rattle.gier_text.specs.TablesModel.{tables_model};
-ghost use Rattle.gier_pass4.specs.Kinds.{owned_at};
+ghost use Rattle.gier_pass4.specs.Kinds.{owned_at, typed_at};
 ghost use Rattle.gier_pass4.specs.Lists.{IsLetter};
 ghost use Rattle.gier_pass4.specs.Invariant.{StateInvariant, IsName, PreservesState};
 
@@ -24,10 +24,18 @@ use std::cmp;
 pub(crate) enum Frame {
     /// Nothing: there is no such block, or all was written.
     Nothing,
-    /// All of it.
-    Whole,
+    /// All of it; its end has this line.
+    Whole(u32),
     /// Its beginning.
     Beginning,
+}
+
+/// Of an own declaration: the fresh identifier of the own quantity whose declaring place comes next, and the line of the type, or 0
+/// where it wasn't read.
+#[derive(Debug, Clone, Copy, PartialEq, Eq)]
+pub(crate) struct OwnQuantity {
+    pub(crate) fresh: u64,
+    pub(crate) type_line: u32,
 }
 
 /// Whether a declaration is an own one.
@@ -35,7 +43,30 @@ pub(crate) enum Frame {
 pub(crate) enum Owned {
     No,
     Unknown,
-    Yes,
+    Yes(OwnQuantity),
+}
+
+// Whether it is known of a declaration that it is an own one, where it begins at its end.
+fn owned_at(frame: Frame, owned: Owned) -> Owned
+    ensures { result ≡ owned_at frame owned }
+{
+    match (frame, owned) {
+        (Frame::Beginning, Owned::No) => Owned::Unknown,
+        _ => owned,
+    }
+}
+
+// The same once a type with this line was read.
+fn typed_at(owned: Owned, line: u32) -> Owned
+    ensures { result ≡ typed_at owned line }
+{
+    match owned {
+        Owned::Yes(own) => Owned::Yes(OwnQuantity {
+            fresh: own.fresh,
+            type_line: line,
+        }),
+        Owned::No | Owned::Unknown => owned,
+    }
 }
 
 impl Pass4 {
@@ -45,10 +76,9 @@ impl Pass4 {
         requires letter { IsLetter self.old.lists.bytes s }
         ensures { PreservesState (potential_of 4 s.tag) self.old (tables_model tables.old) self.new (tables_model tables.new) }
     {
-        if self.owned == Owned::Yes {
-            self.lists.put_own(tables, s);
-        } else {
-            self.lists.put_out(tables, s);
+        match self.owned {
+            Owned::Yes(_) => self.lists.put_own(tables, s),
+            Owned::No | Owned::Unknown => self.lists.put_out(tables, s),
         }
     }
 
@@ -56,9 +86,7 @@ impl Pass4 {
     pub(crate) fn begin_owned(&mut self)
         ensures { self.new ≡ record self.old { owned = owned_at self.old.frame self.old.owned } }
     {
-        if self.owned == Owned::No && self.frame == Frame::Beginning {
-            self.owned = Owned::Unknown;
-        }
+        self.owned = owned_at(self.frame, self.owned);
     }
 
     /// The number of an own quantity, which stands behind its declaring place. With the first of a declaration it is known that the
@@ -69,30 +97,55 @@ impl Pass4 {
         requires line { s.line < 2 ^ 24 }
         ensures { PreservesState 1 self.old (tables_model tables.old) self.new (tables_model tables.new) }
     {
-        self.fresh = FIRST_OWN_NAME + cmp::min(s.value, u64::from(self.lists.bytes));
-        if self.owned == Owned::Unknown {
-            let semicolon = self.lists.plain(Tag::Semicolon, 0, s.line);
-            self.lists.put_own(tables, semicolon);
-            self.lists.keep_own(tables);
-            self.owned = Owned::Yes;
+        let fresh = FIRST_OWN_NAME + cmp::min(s.value, u64::from(self.lists.bytes));
+        match self.owned {
+            Owned::No => {}
+            Owned::Unknown => {
+                let semicolon = self.lists.plain(Tag::Semicolon, 0, s.line);
+                self.lists.put_own(tables, semicolon);
+                self.lists.keep_own(tables);
+                self.owned = Owned::Yes(OwnQuantity {
+                    fresh,
+                    type_line: 0,
+                });
+            }
+            Owned::Yes(own) => {
+                self.owned = Owned::Yes(OwnQuantity {
+                    fresh,
+                    type_line: own.type_line,
+                });
+            }
         }
     }
 
-    /// An own quantity in its declaring place, whose kind the cell will have.
-    pub(crate) fn declare_own(&mut self, s: Symbol, cell: u64, tables: &mut Tables)
+    /// The type of a declaration was read: an own one keeps its line.
+    pub(crate) fn note_type_line(&mut self, line: u32)
+        ensures { self.new ≡ record self.old { owned = typed_at self.old.owned line } }
+    {
+        self.owned = typed_at(self.owned, line);
+    }
+
+    /// An own quantity in its declaring place; of an array the count of its subscripts is told.
+    pub(crate) fn declare_own(
+        &mut self,
+        s: Symbol,
+        fresh: u64,
+        count: Option<u64>,
+        tables: &mut Tables,
+    )
         requires ready { StateInvariant self.old (tables_model tables.old) 6 }
         requires name { IsName self.old.lists.bytes s.value }
         requires line { s.line < 2 ^ 24 }
-        requires cell { cell < 2 ^ 40 }
+        requires fresh { IsName self.old.lists.bytes fresh }
+        requires count { IfSome count (λ n. n < 2 ^ 40) }
         ensures { PreservesState 6 self.old (tables_model tables.old) self.new (tables_model tables.new) }
     {
         let lists = self.lists;
-        let fresh = self.fresh;
         lists.put_own(tables, lists.named(Tag::Declaring, fresh, s.line));
-        if self.place == ParseState::Segment {
-            lists.put_own_entry(tables, lists.plain(Tag::Count, self.dimensions(), 0));
+        if let Some(count) = count {
+            lists.put_own_entry(tables, lists.plain(Tag::Count, count, 0));
         }
-        lists.put_own_entry(tables, lists.plain(Tag::Description, cell, 0));
+        lists.put_own_entry(tables, lists.plain(Tag::Description, 0, 0));
         lists.put_own_entry(tables, lists.named(Tag::Entry, fresh, 0));
         lists.put_entry(tables, lists.plain(Tag::OwnEntry, fresh, 0));
         lists.put_entry(tables, lists.named(Tag::Entry, s.value, 0));
@@ -105,10 +158,10 @@ impl Pass4 {
         requires potential { potential_of 4 s.tag ≡ 1 }
         ensures { PreservesState 1 self.old (tables_model tables.old) self.new (tables_model tables.new) }
     {
-        if self.owned != Owned::Yes {
-            self.lists.put_out(tables, s);
-        } else if self.place != ParseState::TypeDeclaration {
-            self.owned = Owned::No;
+        match (self.owned, self.place) {
+            (Owned::Yes(_), ParseState::TypeDeclaration(_)) => {}
+            (Owned::Yes(_), _) => self.owned = Owned::No,
+            (Owned::No | Owned::Unknown, _) => self.lists.put_out(tables, s),
         }
     }
 
@@ -119,11 +172,12 @@ impl Pass4 {
         requires potential { potential_of 4 s.tag ≡ 1 }
         ensures { PreservesState 1 self.old (tables_model tables.old) self.new (tables_model tables.new) }
     {
-        if self.owned == Owned::Yes {
-            let mark = self.lists.plain(Tag::OpenMark, s.value, self.type_line);
-            self.lists.put_own(tables, mark);
-        } else {
-            self.lists.put_out(tables, s);
+        match self.owned {
+            Owned::Yes(own) => {
+                let mark = self.lists.plain(Tag::OpenMark, s.value, own.type_line);
+                self.lists.put_own(tables, mark);
+            }
+            Owned::No | Owned::Unknown => self.lists.put_out(tables, s),
         }
         self.owned = Owned::No;
     }
@@ -136,17 +190,17 @@ impl Pass4 {
         ensures { PreservesState 1 self.old (tables_model tables.old) self.new (tables_model tables.new) }
     {
         let lists = self.lists;
-        let line = self.end_line;
-        if self.frame == Frame::Whole {
-            self.frame = Frame::Beginning;
-            lists.put_out(tables, lists.plain(Tag::ShutMark, s.value, line));
-            lists.put_out(
-                tables,
-                lists.plain(Tag::ShutMark, Construct::Block.number(), line),
-            );
-            lists.put_out(tables, lists.plain(Tag::End, 0, line));
-        } else {
-            lists.put_out(tables, s);
+        match self.frame {
+            Frame::Whole(line) => {
+                self.frame = Frame::Beginning;
+                lists.put_out(tables, lists.plain(Tag::ShutMark, s.value, line));
+                lists.put_out(
+                    tables,
+                    lists.plain(Tag::ShutMark, Construct::Block.number(), line),
+                );
+                lists.put_out(tables, lists.plain(Tag::End, 0, line));
+            }
+            Frame::Nothing | Frame::Beginning => lists.put_out(tables, s),
         }
     }
 
@@ -159,14 +213,14 @@ impl Pass4 {
         ensures { PreservesState 1 self.old (tables_model tables.old) self.new (tables_model tables.new) }
     {
         let lists = self.lists;
+        let frame = self.frame;
         self.owned = Owned::No;
-        if self.frame != Frame::Beginning {
-            self.frame = Frame::Nothing;
+        self.frame = Frame::Nothing;
+        if frame != Frame::Beginning {
             lists.give_entries(tables, base, s.line);
             lists.put_out(tables, s);
             return;
         }
-        self.frame = Frame::Nothing;
         lists.give_owns(tables);
         lists.put_out(tables, lists.plain(Tag::Begin, 0, s.line));
         lists.give_entries(tables, base, s.line);

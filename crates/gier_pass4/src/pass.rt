@@ -22,16 +22,8 @@ pub struct Pass4 {
     pub(crate) place: ParseState,
     pub(crate) frame: Frame,
     pub(crate) owned: Owned,
-    // The fresh identifier of the own quantity whose declaring place comes next.
-    pub(crate) fresh: u64,
-    // How many bounds of the segment were read.
-    pub(crate) bounds: u32,
-    // The procedure whose heading is being read, where its identifier was read, and the first cell of that heading.
-    pub(crate) procedure: Option<u64>,
+    // The number of the heading that is being read, or was read last; 0 where there was none.
     pub(crate) heading: u32,
-    // The lines of the end and of the last word that told a type.
-    pub(crate) end_line: u32,
-    pub(crate) type_line: u32,
 }
 
 // What a symbol of text 3 weighs.
@@ -66,12 +58,7 @@ impl Pass4 {
             place: ParseState::Statements,
             frame: Frame::Nothing,
             owned: Owned::No,
-            fresh: 0,
-            bounds: 0,
-            procedure: None,
             heading: 0,
-            end_line: 0,
-            type_line: 0,
         }
     }
 

@@ -1,14 +1,11 @@
 // The scopes that are open, and what is declared in them.
-ghost use Rattle.std.specs.Prelude.{◌≡◌, ◌<◌, ◌≤◌, ◌^◌, ◌+◌, ◌*◌, ◌/◌};
+ghost use Rattle.std.specs.Prelude.{◌≡◌, ◌<◌, ◌≤◌, ◌^◌, ◌+◌, ◌*◌, ◌/◌, IfSome};
 ghost use Rattle.gier_text.specs.Potential.{potential_of};
 ghost use Rattle.gier_text.specs.TablesModel.{tables_model};
-ghost use Rattle.gier_text.specs.Lists.{list_at};
-ghost use Rattle.gier_pass4.specs.declared.marks.ParseState.TheVariants.{Heading};
 ghost use Rattle.gier_pass4.specs.Lists.{HasLists, IsLetter, Grows, potential_stored};
 ghost use Rattle.gier_pass4.specs.Invariant.{StateInvariant, IsName, PreservesState};
 
-use crate::kinds::declared_by;
-use crate::lists::{CELLS, ENTRIES, Lists, SCOPES};
+use crate::lists::{ENTRIES, Lists, SCOPES};
 use crate::marks::ParseState;
 use crate::owns::Owned;
 use crate::pass::Pass4;
@@ -46,49 +43,61 @@ impl Lists {
         base as u32
     }
 
-    // Puts an entry, whose kind a cell has, into the innermost scope.
-    fn declare(self, tables: &mut Tables, name: u64, cell: u64)
+    /// Puts an entry with a kind's number into the innermost scope.
+    pub(crate) fn declare(self, tables: &mut Tables, name: u64, kind: u64)
         requires lists { HasLists self.bytes (tables_model tables.old) }
         requires room { potential_stored (tables_model tables.old) 1 + 2 ≤ 6 * self.bytes + 48 }
         requires name { IsName self.bytes name }
-        requires cell { cell < 2 ^ 40 }
+        requires kind { kind < 2 ^ 40 }
         ensures lists { HasLists self.bytes (tables_model tables.new) }
         ensures grows { Grows (tables_model tables.old) (tables_model tables.new) 0 2 0 0 0 }
     {
-        self.put_entry(tables, self.plain(Tag::Description, cell, 0));
+        self.put_entry(tables, self.plain(Tag::Description, kind, 0));
         self.put_entry(tables, self.named(Tag::Entry, name, 0));
     }
 }
 
+/// How many subscripts the arrays have of whose segment so many bounds were read.
+pub(crate) fn dimensions(bounds: u32) -> u64
+    ensures value { result ≡ bounds / 2 }
+    ensures small { result < 2 ^ 40 }
+{
+    u64::from(bounds / 2)
+}
+
 impl Pass4 {
-    /// How many subscripts the arrays of the segment have.
-    pub(crate) fn dimensions(&self) -> u64
-        ensures value { result ≡ self.now.bounds / 2 }
-        ensures small { result < 2 ^ 40 }
+    // A variable or an array, whose kind isn't known yet; of an array the count of its subscripts is told.
+    fn declare_typed(&mut self, s: Symbol, count: Option<u64>, tables: &mut Tables)
+        requires ready { StateInvariant self.old (tables_model tables.old) 6 }
+        requires letter { IsLetter self.old.lists.bytes s }
+        requires potential { potential_of 4 s.tag ≡ 1 }
+        requires name { IsName self.old.lists.bytes s.value }
+        requires count { IfSome count (λ n. n < 2 ^ 40) }
+        ensures { PreservesState 6 self.old (tables_model tables.old) self.new (tables_model tables.new) }
     {
-        u64::from(self.bounds / 2)
+        let lists = self.lists;
+        if let Owned::Yes(own) = self.owned {
+            self.declare_own(s, own.fresh, count, tables);
+            return;
+        }
+        self.owned = Owned::No;
+        lists.put_out(tables, s);
+        if let Some(count) = count {
+            lists.put_entry(tables, lists.plain(Tag::Count, count, 0));
+        }
+        lists.declare(tables, s.value, 0);
     }
 
-    // Variables and arrays have the kind of the last cell.
-    fn declare_typed(&mut self, s: Symbol, tables: &mut Tables)
+    // The identifier of the procedure whose heading is being read.
+    fn declare_procedure(&mut self, s: Symbol, kind: Kind, tables: &mut Tables)
         requires ready { StateInvariant self.old (tables_model tables.old) 6 }
         requires letter { IsLetter self.old.lists.bytes s }
         requires potential { potential_of 4 s.tag ≡ 1 }
         requires name { IsName self.old.lists.bytes s.value }
         ensures { PreservesState 6 self.old (tables_model tables.old) self.new (tables_model tables.new) }
     {
-        let lists = self.lists;
-        let cell = u64::from(lists.last_cell(tables));
-        if self.owned == Owned::Yes {
-            self.declare_own(s, cell, tables);
-            return;
-        }
-        self.owned = Owned::No;
-        lists.put_out(tables, s);
-        if self.place == ParseState::Segment {
-            lists.put_entry(tables, lists.plain(Tag::Count, self.dimensions(), 0));
-        }
-        lists.declare(tables, s.value, cell);
+        self.lists.put_out(tables, s);
+        self.place = ParseState::Heading(kind, Some(s.value));
     }
 
     /// An identifier in a declaring place.
@@ -101,59 +110,20 @@ impl Pass4 {
     {
         let lists = self.lists;
         match self.place {
-            ParseState::TypeDeclaration | ParseState::Segment => self.declare_typed(s, tables),
+            ParseState::TypeDeclaration(_) => self.declare_typed(s, None, tables),
+            ParseState::Segment(_, bounds) => {
+                self.declare_typed(s, Some(dimensions(bounds)), tables);
+            }
             ParseState::SwitchDeclaration => {
                 lists.put_out(tables, s);
                 lists.declare(tables, s.value, Kind::Switch.number());
             }
-            ParseState::Heading => {
-                lists.put_out(tables, s);
-                self.procedure = Some(s.value);
-            }
+            ParseState::Heading(kind, _) => self.declare_procedure(s, kind, tables),
+            ParseState::Segments(_) => lists.put_out(tables, s),
             ParseState::Statements => {
                 lists.put_out(tables, s);
                 lists.declare(tables, s.value, Kind::Label.number());
             }
         }
-    }
-
-    /// An identifier in a formal list.
-    pub(crate) fn formal(&mut self, s: Symbol, tables: &mut Tables)
-        requires ready { StateInvariant self.old (tables_model tables.old) 4 }
-        requires letter { IsLetter self.old.lists.bytes s }
-        requires potential { potential_of 4 s.tag ≡ 1 }
-        requires name { IsName self.old.lists.bytes s.value }
-        ensures { PreservesState 4 self.old (tables_model tables.old) self.new (tables_model tables.new) }
-    {
-        let lists = self.lists;
-        let kind = lists.kind_of_formal(tables, s.value, self.heading);
-        lists.put_out(tables, s);
-        lists.put_formal(tables, lists.plain(Tag::Description, kind.number(), 0));
-        lists.declare(tables, s.value, kind.number());
-    }
-
-    /// The body of a procedure begins, and its heading, at its end.
-    pub(crate) fn begin_heading(&mut self, tables: &Tables)
-        requires { HasLists self.old.lists.bytes (tables_model tables.now) }
-        ensures { self.new ≡ record self.old { place = Heading; heading = (list_at (tables_model tables.now).lists 6).count } }
-    {
-        self.place = ParseState::Heading;
-        self.heading = tables.len(CELLS);
-    }
-
-    /// The heading of a procedure begins: the procedure is declared in the scope around it.
-    pub(crate) fn end_heading(&mut self, tables: &mut Tables)
-        requires ready { StateInvariant self.old (tables_model tables.old) 0 }
-        ensures { PreservesState 0 self.old (tables_model tables.old) self.new (tables_model tables.new) }
-    {
-        let lists = self.lists;
-        lists.give_formals(tables);
-        if let Some(name) = self.procedure {
-            let cell = u64::from(lists.last_cell(tables));
-            let kind = declared_by(lists.kind_in(tables, cell));
-            lists.declare(tables, name, kind.number());
-        }
-        self.procedure = None;
-        self.place = ParseState::Statements;
     }
 }

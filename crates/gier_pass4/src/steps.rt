@@ -5,15 +5,39 @@ ghost use Rattle.gier_symbol.specs.Tags.{number_of};
 ghost use Rattle.gier_symbol.specs.Texts.{stands_in};
 ghost use Rattle.gier_text.specs.Potential.{is_numbered, potential_of};
 ghost use Rattle.gier_text.specs.TablesModel.{tables_model};
-ghost use Rattle.gier_pass4.specs.Lists.{IsLetter};
+ghost use Rattle.gier_pass4.specs.Kinds.{procedure_of};
+ghost use Rattle.gier_pass4.specs.Lists.{HasLists, IsLetter};
 ghost use Rattle.gier_pass4.specs.Invariant.{StateInvariant, IsName, PreservesState};
 
+use crate::kinds::{array_kind, variable_kind};
 use crate::marks::ParseState;
 use crate::owns::Frame;
 use crate::pass::Pass4;
 use gier_symbol::{Symbol, Tag};
 use gier_text::Tables;
 use gier_tree::Construct;
+
+// The place behind one more bound of a segment.
+fn next_bound(place: ParseState) -> ParseState
+    ensures { procedure_of result ≡ procedure_of place }
+{
+    match place {
+        ParseState::Segment(untyped, bounds) => {
+            ParseState::Segment(untyped, bounds.saturating_add(1))
+        }
+        _ => place,
+    }
+}
+
+// The place before a segment.
+fn before_segment(place: ParseState) -> ParseState
+    ensures { procedure_of result ≡ procedure_of place }
+{
+    match place {
+        ParseState::Segment(untyped, _) => ParseState::Segments(untyped),
+        _ => place,
+    }
+}
 
 impl Pass4 {
     /// Takes a symbol, and puts what is to be written then into the list of that.
@@ -61,9 +85,8 @@ impl Pass4 {
         self.frame = if s.value == 0 {
             Frame::Nothing
         } else {
-            Frame::Whole
+            Frame::Whole(s.line)
         };
-        self.end_line = s.line;
         let end = self.lists.plain(Tag::TextEnd, 0, s.line);
         self.lists.put_out(tables, end);
     }
@@ -75,19 +98,36 @@ impl Pass4 {
         ensures ready { StateInvariant self.new (tables_model tables.new) (potential_of 4 s.tag) }
         ensures works { PreservesState 0 self.old (tables_model tables.old) self.new (tables_model tables.new) }
     {
-        let lists = self.lists;
         match kind {
-            Tag::Semicolon => lists.begin_cell(tables),
-            Tag::ValueListed => lists.list_by_value(tables, s.value),
-            Tag::Specified => lists.specify(tables, s.value),
-            Tag::Integer | Tag::Boolean => {
-                self.type_line = s.line;
-                lists.read_word(tables, self.place, kind);
+            Tag::Semicolon | Tag::ValueListed | Tag::Specified => {
+                self.note_heading(s, kind, tables);
             }
-            Tag::Array | Tag::Switch | Tag::Procedure | Tag::String | Tag::Label => {
-                lists.read_word(tables, self.place, kind);
-            }
+            Tag::Integer | Tag::Boolean => self.note_type(s, kind, tables),
+            Tag::Array | Tag::Switch | Tag::Procedure | Tag::String | Tag::Label => self.say(kind),
             _ => {}
+        }
+    }
+
+    // A type: the entries of the declaration get their kind.
+    fn note_type(&mut self, s: Symbol, word: Tag, tables: &mut Tables)
+        requires ready { StateInvariant self.old (tables_model tables.old) (potential_of 4 s.tag) }
+        requires line { s.line < 2 ^ 24 }
+        ensures ready { StateInvariant self.new (tables_model tables.new) (potential_of 4 s.tag) }
+        ensures works { PreservesState 0 self.old (tables_model tables.old) self.new (tables_model tables.new) }
+    {
+        let lists = self.lists;
+        match self.place {
+            ParseState::TypeDeclaration(untyped) => {
+                lists.give_kind(tables, untyped, variable_kind(word));
+                self.note_type_line(s.line);
+                self.place = ParseState::TypeDeclaration(lists.untyped(tables));
+            }
+            ParseState::Segments(untyped) => {
+                lists.give_kind(tables, untyped, array_kind(word));
+                self.note_type_line(s.line);
+                self.place = ParseState::Statements;
+            }
+            _ => self.say(word),
         }
     }
 
@@ -100,17 +140,19 @@ impl Pass4 {
     {
         match Construct::of(s.value) {
             Some(Construct::Program) => {
+                self.place = ParseState::Statements;
                 self.lists.begin_scope(tables);
                 self.end_program(s, tables);
             }
             Some(
                 Construct::Block | Construct::ProcedureDeclaration | Construct::ControlledStatement,
             ) => {
+                self.place = ParseState::Statements;
                 self.lists.begin_scope(tables);
                 self.hand_on(s, tables);
             }
             Some(construct) => {
-                self.begin_declaration(construct);
+                self.begin_declaration(construct, tables);
                 self.hand_on(s, tables);
             }
             None => self.hand_on(s, tables),
@@ -118,22 +160,34 @@ impl Pass4 {
     }
 
     // The mark behind a part of a declaration.
-    fn begin_declaration(&mut self, construct: Construct)
-        ensures { self.new ≡ record self.old { place = self.new.place; bounds = self.new.bounds; owned = self.new.owned } }
+    fn begin_declaration(&mut self, construct: Construct, tables: &Tables)
+        requires ready { StateInvariant self.old (tables_model tables.now) 1 }
+        ensures ready { StateInvariant self.new (tables_model tables.now) 1 }
+        ensures works { PreservesState 0 self.old (tables_model tables.now) self.new (tables_model tables.now) }
     {
         match construct {
             Construct::TypeDeclaration => {
-                self.place = ParseState::TypeDeclaration;
+                self.place = ParseState::TypeDeclaration(self.lists.untyped(tables));
                 self.begin_owned();
             }
             Construct::ArraySegment => {
-                self.place = ParseState::Segment;
-                self.bounds = 0;
+                self.place = self.segment(tables);
                 self.begin_owned();
             }
             Construct::SwitchDeclaration => self.place = ParseState::SwitchDeclaration,
-            Construct::Bound => self.bounds = self.bounds.saturating_add(1),
+            Construct::Bound => self.place = next_bound(self.place),
             _ => {}
+        }
+    }
+
+    // The place within a segment; all segments of a declaration wait for their type together.
+    fn segment(&self, tables: &Tables) -> ParseState
+        requires { HasLists self.now.lists.bytes (tables_model tables.now) }
+        ensures { procedure_of result ≡ None }
+    {
+        match self.place {
+            ParseState::Segments(untyped) => ParseState::Segment(untyped, 0),
+            _ => ParseState::Segment(self.lists.untyped(tables), 0),
         }
     }
 
@@ -146,10 +200,14 @@ impl Pass4 {
     {
         match Construct::of(s.value) {
             Some(Construct::Program) => {
+                self.place = ParseState::Statements;
                 let base = self.lists.end_scope(tables);
                 self.begin_program(s, base, tables);
             }
-            Some(Construct::Block | Construct::ControlledStatement) => self.end_of_scope(s, tables),
+            Some(Construct::Block | Construct::ControlledStatement) => {
+                self.place = ParseState::Statements;
+                self.end_of_scope(s, tables);
+            }
             Some(Construct::ProcedureDeclaration) => {
                 self.end_of_scope(s, tables);
                 self.end_heading(tables);
@@ -162,7 +220,11 @@ impl Pass4 {
                 self.place = ParseState::Statements;
                 self.end_type(s, tables);
             }
-            Some(Construct::ArraySegment | Construct::SwitchDeclaration) => {
+            Some(Construct::ArraySegment) => {
+                self.place = before_segment(self.place);
+                self.hand_on(s, tables);
+            }
+            Some(Construct::SwitchDeclaration) => {
                 self.place = ParseState::Statements;
                 self.hand_on(s, tables);
             }
