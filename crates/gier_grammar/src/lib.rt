@@ -5,6 +5,7 @@
 mod grammar_symbol;
 mod parse_table;
 mod production;
+mod right_sides;
 mod stack_entry;
 
 pub use grammar_symbol::{GrammarSymbol, Mark};
