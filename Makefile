@@ -1,16 +1,18 @@
 # Builds, tests and installs the program: make, make check, make install PREFIX=/where
 PREFIX = /usr/local
-PROGRAM = crates/gier/out/gier
+PROGRAMS = gier gier_list
 
 .PHONY: all check install
 
 all:
-	./gier --version
+	for program in $(PROGRAMS); do ./$$program --version || exit 1; done
 
 check:
 	tests/all
 
 install: all
 	install -d $(DESTDIR)$(PREFIX)/bin $(DESTDIR)$(PREFIX)/share/man/man1
-	install -m 755 $(PROGRAM) $(DESTDIR)$(PREFIX)/bin/gier
-	install -m 644 docs/gier.1 $(DESTDIR)$(PREFIX)/share/man/man1/gier.1
+	for program in $(PROGRAMS); do \
+		install -m 755 crates/$$program/out/$$program $(DESTDIR)$(PREFIX)/bin/ && \
+		install -m 644 docs/$$program.1 $(DESTDIR)$(PREFIX)/share/man/man1/ || exit 1; \
+	done

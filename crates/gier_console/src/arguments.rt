@@ -37,9 +37,34 @@ pub fn read_command_line(
 ) -> Result<CommandLine, AllocError>
     requires { first ≤ 2 }
 {
+    read_line_of(env, alloc, first, FEWEST_WORDS_WITH_PATH)
+}
+
+/// The command line from the word with the number `first` on, of a program to which no word says what is to be done. Its last
+/// word is the path of the tape where it has the form of one.
+pub fn read_plain_command_line(
+    env: &impl Env,
+    alloc: Global,
+    first: usize,
+) -> Result<CommandLine, AllocError>
+    requires { first ≤ 2 }
+{
+    read_line_of(env, alloc, first, 1)
+}
+
+// The command line whose last word may be a path where there are at least so many words.
+fn read_line_of(
+    env: &impl Env,
+    alloc: Global,
+    first: usize,
+    fewest: usize,
+) -> Result<CommandLine, AllocError>
+    requires first { first ≤ 2 }
+    requires fewest { 1 ≤ fewest }
+{
     let mut words = read_arguments(env, alloc, first)?;
     let mut tape = None;
-    if words.len() >= FEWEST_WORDS_WITH_PATH {
+    if words.len() >= fewest {
         tape = read_path(env, alloc, first + words.len() - 1)?;
     }
     if tape.is_some() {

@@ -8,7 +8,9 @@ mod explaining;
 mod printed;
 mod reading;
 
-pub use arguments::{CommandLine, LONGEST_PATH, is_path, read_arguments, read_command_line};
+pub use arguments::{
+    CommandLine, LONGEST_PATH, is_path, read_arguments, read_command_line, read_plain_command_line,
+};
 pub use explaining::explain;
 pub use printed::Printed;
 pub use reading::{ProgramText, TapeReader};

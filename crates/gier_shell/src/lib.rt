@@ -5,5 +5,7 @@
 mod serving;
 mod tape;
 
-pub use gier_console::{CommandLine, LONGEST_PATH, read_arguments, read_command_line};
-pub use serving::{About, end, serve, tell};
+pub use gier_console::{
+    CommandLine, LONGEST_PATH, read_arguments, read_command_line, read_plain_command_line,
+};
+pub use serving::{About, Job, end, serve, serve_job, tell};

@@ -1,9 +1,12 @@
-// The top call between the tape and standard output, and what is said on standard error.
+// A job between the tape and standard output, the top call or another one, and what is said on standard error.
+ghost use Rattle.std.specs.Prelude.{◌≤◌, IfSome};
+
 use crate::tape::Tape;
 use gier_console::{CommandLine, Printed, ProgramText, TapeReader, explain, is_path};
 use gier_drum::Drum;
-use gier_io::{StdSink, StdSource};
+use gier_io::{Sink, Source, StdSink, StdSource};
 use gier_job::{Status, gier, read_words, status_text};
+use std::alloc::Global;
 use std::io::{BufReader, BufWriter, IsTerminal, Read, Write};
 use std::process::ExitCode;
 use std::rt::Files;
@@ -39,9 +42,64 @@ fn say(rt: &impl Print, text: &str) -> Status {
     }
 }
 
-/// Does what the words ask for over a drum, with standard output as the printer. The tape is the file that the command line
-/// names, and standard input behind it where the file holds no mark, or standard input alone. A wrong word, a file that can't be
-/// read and each error of the program are explained on standard error.
+/// What a program does with a tape.
+pub trait Job {
+    /// Does what the words ask for with the program on the tape, over a drum, and prints the answer.
+    fn work<S: Source, K: Sink, D: Drum>(
+        &self,
+        alloc: Global,
+        words: &[String],
+        tape: &mut S,
+        out: &mut K,
+        drum: &mut D,
+    ) -> Status;
+
+    /// What the program says of itself.
+    fn about(&self) -> About;
+
+    /// The number of the first wrong word, from 1, where there is one.
+    fn wrong_word(&self, words: &[String]) -> Option<u32>
+        ensures { IfSome result (λ number. 1 ≤ number) };
+
+    /// What has to stand before the path of a tape that is the first word, with a space behind it, or nothing.
+    fn command(&self) -> &'static str;
+}
+
+// The job of `gier`: the top call.
+#[derive(Clone, Copy)]
+struct Compiling {
+    about: About,
+}
+
+impl Job for Compiling {
+    fn work<S: Source, K: Sink, D: Drum>(
+        &self,
+        alloc: Global,
+        words: &[String],
+        tape: &mut S,
+        out: &mut K,
+        drum: &mut D,
+    ) -> Status {
+        gier(alloc, words, tape, out, drum)
+    }
+
+    fn about(&self) -> About {
+        self.about
+    }
+
+    fn wrong_word(&self, words: &[String]) -> Option<u32> {
+        match read_words(words) {
+            Ok(_) => None,
+            Err(number) => Some(number),
+        }
+    }
+
+    fn command(&self) -> &'static str {
+        "run "
+    }
+}
+
+/// Does what the words ask for as `gier`, by the top call.
 pub fn serve<R: Input + Print + Eprint + Files + AllocGlobal, D: Drum>(
     rt: &R,
     about: &About,
@@ -51,16 +109,31 @@ pub fn serve<R: Input + Print + Eprint + Files + AllocGlobal, D: Drum>(
 where
     R::Reader: IsTerminal,
 {
-    match open_tape(rt, about, line) {
-        Ok(file) => run(rt, about, line, file, drum),
+    serve_job(rt, &Compiling { about: *about }, line, drum)
+}
+
+/// Does a job over a drum, with standard output as the printer. The tape is the file that the command line names, and standard
+/// input behind it where the file holds no mark, or standard input alone. A wrong word, a file that can't be read and each error of
+/// the program are explained on standard error.
+pub fn serve_job<R: Input + Print + Eprint + Files + AllocGlobal, J: Job, D: Drum>(
+    rt: &R,
+    job: &J,
+    line: &CommandLine,
+    drum: &mut D,
+) -> Status
+where
+    R::Reader: IsTerminal,
+{
+    match open_tape(rt, job, line) {
+        Ok(file) => run(rt, job, line, file, drum),
         Err(status) => status,
     }
 }
 
 // The file of the tape, where the command line names one. A wrong word is told before a file that can't be opened.
-fn open_tape<R: Eprint + Files>(
+fn open_tape<R: Eprint + Files, J: Job>(
     rt: &R,
-    about: &About,
+    job: &J,
     line: &CommandLine,
 ) -> Result<Option<R::File>, Status> {
     let Some(path) = &line.tape else {
@@ -68,18 +141,18 @@ fn open_tape<R: Eprint + Files>(
     };
     match fs::open(rt, path.as_str()) {
         Ok(file) => Ok(Some(file)),
-        Err(_) if read_words(line.words.as_slice()).is_err() => Ok(None),
+        Err(_) if job.wrong_word(line.words.as_slice()).is_some() => Ok(None),
         Err(error) => {
-            refuse(rt, about, path.as_str(), &error);
+            refuse(rt, &job.about(), path.as_str(), &error);
             Err(Status::Tape)
         }
     }
 }
 
 // The tape is read through a buffer, and what is printed is out before this returns.
-fn run<R: Input + Print + Eprint + Files + AllocGlobal, D: Drum>(
+fn run<R: Input + Print + Eprint + Files + AllocGlobal, J: Job, D: Drum>(
     rt: &R,
-    about: &About,
+    job: &J,
     line: &CommandLine,
     file: Option<R::File>,
     drum: &mut D,
@@ -100,7 +173,7 @@ where
     };
     let mut tape = Tape::of(StdSource::of(reader));
     let mut printer = StdSink::of(writer);
-    let status = gier(alloc, line.words.as_slice(), &mut tape, &mut printer, drum);
+    let status = job.work(alloc, line.words.as_slice(), &mut tape, &mut printer, drum);
     let mut writer = printer.into_inner();
     let flushed = writer.flush();
     let status = match flushed {
@@ -109,37 +182,50 @@ where
     };
     let (text, refusal) = tape.into_inner().into_inner().into_inner().into_parts();
     let printed = writer.get_ref().beginning();
-    comment(rt, about, line, status, printed, &text, refusal.as_ref());
+    if let Some(error) = refusal.as_ref() {
+        comment_refusal(rt, job, line, status, error);
+    }
+    comment(rt, job, line, status, printed, &text);
     status
 }
 
 // Says on standard error what helps with this status.
-fn comment<R: Eprint + Files>(
+fn comment<R: Eprint + Files, J: Job>(
     rt: &R,
-    about: &About,
+    job: &J,
     line: &CommandLine,
     status: Status,
     printed: &[u8],
     text: &ProgramText,
-    refusal: Option<&io::Error>,
 ) {
-    let path = line.tape.as_ref().map(|path| path.as_str());
     match status {
-        Status::Words => name_wrong_word(rt, about, line.words.as_slice()),
-        Status::Errors => explain(rt, about.name, path, printed, text.bytes()),
-        Status::Tape => {
-            if let Some(error) = refusal {
-                refuse(rt, about, path.unwrap_or(""), error);
-            }
-        }
+        Status::Words => name_wrong_word(rt, job, line.words.as_slice()),
+        Status::Errors => explain(rt, job.about().name, path_of(line), printed, text.bytes()),
         _ => {}
     }
 }
 
+// Where the tape failed, names the file and what it was refused with.
+fn comment_refusal<R: Eprint + Files, J: Job>(
+    rt: &R,
+    job: &J,
+    line: &CommandLine,
+    status: Status,
+    error: &io::Error,
+) {
+    if let Status::Tape = status {
+        refuse(rt, &job.about(), path_of(line).unwrap_or(""), error);
+    }
+}
+
+fn path_of(line: &CommandLine) -> Option<&str> {
+    line.tape.as_ref().map(|path| path.as_str())
+}
+
 // Names the wrong word. One that is the name of a file was meant as the tape.
-fn name_wrong_word<R: Eprint + Files>(rt: &R, about: &About, words: &[String]) {
-    let name = about.name;
-    let Err(number) = read_words(words) else {
+fn name_wrong_word<R: Eprint + Files, J: Job>(rt: &R, job: &J, words: &[String]) {
+    let name = job.about().name;
+    let Some(number) = job.wrong_word(words) else {
         return;
     };
     let Some(word) = words.get(number as usize - 1) else {
@@ -150,7 +236,7 @@ fn name_wrong_word<R: Eprint + Files>(rt: &R, about: &About, words: &[String]) {
     let word = word.as_str();
     if is_file(rt, word) {
         let folder = if is_path(word) { "" } else { "./" };
-        let command = if number == 1 { "run " } else { "" };
+        let command = if number == 1 { job.command() } else { "" };
         let _ = eprintln!(rt;
             "{name}: there is a file {word}: as the tape, write {command}{folder}{word} last"
         );
