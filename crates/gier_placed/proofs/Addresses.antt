@@ -5,7 +5,8 @@ use Rattle.std.proofs.lemmas.Bool.{eq-eqb}
 use Rattle.gier_symbol.specs.declared.symbol.Symbol.{Symbol}
 use Rattle.gier_symbol.specs.declared.tag.Tag.TheVariants.{LabelPlace}
 use Rattle.gier_symbol.specs.ByTag.{sym as symbol}
-use Rattle.gier_tree.specs.Object.{Piece, APlace, AUse, AWordUse, ARoom, ANeed, ACount, AWord, AnOrder, piece_of, words_of, address_at, address_of}
+use Rattle.gier_tree.specs.Object.{Piece, APlace, AUse, AWordUse, ARoom, ANeed, ACount, AWord, AnOrder, piece_of, words_of}
+use Rattle.gier_tree.specs.Object.{address_at, address_of}
 use Rattle.gier_tree.specs.Orders.{first_label}
 use Rattle.gier_tree.specs.Text7.{code_program}
 use Rattle.gier_tree.specs.Trees.{Program}
@@ -23,7 +24,8 @@ abbrev pub times_at : (label : ℕ) → Piece → ℕ
 times_at label (APlace found) = if found == label then 1 else 0
 times_at label piece = 0
 
-at_front : (label : ℕ) (piece : Piece) (places : List ℕ) → times label (with_place piece places) ≡ times_at label piece + times label places
+at_front : (label : ℕ) (piece : Piece) (places : List ℕ)
+    → times label (with_place piece places) ≡ times_at label piece + times label places
 at_front label (APlace found) places = refl
 at_front label (AUse head used) places = let e : times label places ≡ 0 + times label places = omega arith in e
 at_front label (AWordUse used) places = let e : times label places ≡ 0 + times label places = omega arith in e
@@ -33,15 +35,20 @@ at_front label ACount places = let e : times label places ≡ 0 + times label pl
 at_front label (AWord value) places = let e : times label places ≡ 0 + times label places = omega arith in e
 at_front label (AnOrder op value) places = let e : times label places ≡ 0 + times label places = omega arith in e
 
-pub first_is : (label : ℕ) (s : Symbol) (text : List Symbol) → times label (places_in (s ∷ text)) ≡ times_at label (piece_of s) + times label (places_in text)
+pub first_is : (label : ℕ) (s : Symbol) (text : List Symbol)
+    → times label (places_in (s ∷ text)) ≡ times_at label (piece_of s) + times label (places_in text)
 first_is label s text = at_front label (piece_of s) (places_in text)
 
-pub parted : (label : ℕ) (before rest : List Symbol) → times label (places_in (before ++ rest)) ≡ times label (places_in before) + times label (places_in rest)
+pub parted : (label : ℕ) (before rest : List Symbol)
+    → times label (places_in (before ++ rest)) ≡ times label (places_in before) + times label (places_in rest)
 parted label [] rest = let e : times label (places_in rest) ≡ 0 + times label (places_in rest) = omega arith in e
 parted label (s ∷ before) rest =
-    let more : times label (places_in (before ++ rest)) ≡ times label (places_in before) + times label (places_in rest) = parted label before rest in
-    let whole : times label (places_in (s ∷ before ++ rest)) ≡ times_at label (piece_of s) + times label (places_in (before ++ rest)) = first_is label s (before ++ rest) in
-    let part : times label (places_in (s ∷ before)) ≡ times_at label (piece_of s) + times label (places_in before) = first_is label s before in
+    let more : times label (places_in (before ++ rest))
+    ≡ times label (places_in before) + times label (places_in rest) = parted label before rest in
+    let whole : times label (places_in (s ∷ before ++ rest))
+    ≡ times_at label (piece_of s) + times label (places_in (before ++ rest)) = first_is label s (before ++ rest) in
+    let part : times label (places_in (s ∷ before))
+    ≡ times_at label (piece_of s) + times label (places_in before) = first_is label s before in
     omega arith
 
 -- a piece without the label's place isn't its address
@@ -64,8 +71,10 @@ pub address_is : (label line w : ℕ) (before rest : List Symbol) → times labe
 address_is label line w [] rest none =
     ap (λ b. if b then w else address_of rest label (w + 0)) (eq-eqb label label refl) ∙ (let e : w ≡ w + 0 = omega arith in e)
 address_is label line w (s ∷ before) rest none =
-    let parts : times label (places_in (s ∷ before)) ≡ times_at label (piece_of s) + times label (places_in before) = first_is label s before in
-    passed label w (address_of (before ++ symbol LabelPlace label line ∷ rest) label (w + words_of (piece_of s))) (piece_of s) (omega arith)
+    let parts : times label (places_in (s ∷ before))
+    ≡ times_at label (piece_of s) + times label (places_in before) = first_is label s before in
+    passed label w (address_of (before ++ symbol LabelPlace label line
+    ∷ rest) label (w + words_of (piece_of s))) (piece_of s) (omega arith)
     ∙ address_is label line (w + words_of (piece_of s)) before rest (omega arith)
     ∙ (let e : (w + words_of (piece_of s)) + words_in before ≡ w + (words_of (piece_of s) + words_in before) = omega arith in e)
 
@@ -80,10 +89,13 @@ labels_are_addresses t scopes few before rest label line whole =
     let place = symbol LabelPlace label line in
     let here : times label (places_in (place ∷ rest)) ≡ chosen (label == label) + times label (places_in rest) = refl in
     let one : chosen (label == label) ≡ 1 = ap chosen (eq-eqb label label refl) in
-    let parts : times label (places_in (before ++ place ∷ rest)) ≡ times label (places_in before) + times label (places_in (place ∷ rest)) = parted label before (place ∷ rest) in
-    let same : times label (places_in (before ++ place ∷ rest)) ≡ times label (places_in (code_program t)) = ap (λ text. times label (places_in text)) whole in
+    let parts : times label (places_in (before ++ place ∷ rest))
+    ≡ times label (places_in before) + times label (places_in (place ∷ rest)) = parted label before (place ∷ rest) in
+    let same : times label (places_in (before ++ place ∷ rest))
+    ≡ times label (places_in (code_program t)) = ap (λ text. times label (places_in text)) whole in
     let most : times label (places_in (code_program t)) ≤ 1 = placed_once t code h few label in
     let none : times label (places_in before) ≡ 0 = omega arith in (
       small_number t code label (few_declared t code h few) (few_of_code t code h few) (is_number t code h few label (omega arith)),
-      ap (λ text. address_of text label 0) (sym whole) ∙ address_is label line 0 before rest none ∙ (let e : 0 + words_in before ≡ words_in before = omega arith in e),
+      ap (λ text. address_of text label 0) (sym whole) ∙ address_is label line 0 before rest none
+          ∙ (let e : 0 + words_in before ≡ words_in before = omega arith in e),
     )

@@ -29,28 +29,38 @@ and_none q e = omega arith
 
 placing_carried : IsCarried placing
 placing_carried = record {
-  an_order = λ o other value line n st rest h. (h.0, λ weight. ap (λ p. sum weight (with_place p (places_in rest))) (piece_is o value line) ∙ h.1 weight);
+  an_order = λ o other value line n st rest h.
+      (h.0, λ weight. ap (λ p. sum weight (with_place p (places_in rest))) (piece_is o value line) ∙ h.1 weight);
   a_use = λ value line n st rest h. h;
   a_word_use = λ value line n st rest h. h;
   a_word = λ value line n st rest h. h;
   a_room = λ value line n st rest h. h;
-  a_place = λ value line n st rest h. (h.0, λ weight. one_place (weight value) (sum weight (places_in rest)) (n.places weight) (row weight (first_label + st.labels) h.0) (h.1 weight));
+  a_place = λ value line n st rest h. (
+    h.0,
+    λ weight. one_place (weight value) (sum weight (places_in rest)) (n.places weight) (row weight
+        (first_label + st.labels) h.0) (h.1 weight),
+  );
   a_need = λ value line n st rest h. h;
   a_new = λ n st rest h. (
     suc h.0,
     λ weight.
-        let next : row weight (first_label + suc st.labels) h.0 ≡ row weight (suc (first_label + st.labels)) h.0 = row_from weight (first_label + suc st.labels) (suc (first_label + st.labels)) h.0 (omega arith) in
-        one_new (weight (first_label + st.labels)) (sum weight (places_in rest)) (n.places weight) (row weight (suc (first_label + st.labels)) h.0)
+        let next : row weight (first_label + suc st.labels) h.0
+        ≡ row weight (suc (first_label + st.labels)) h.0 =
+        row_from weight (first_label + suc st.labels) (suc (first_label + st.labels)) h.0 (omega arith) in
+        one_new (weight (first_label + st.labels)) (sum weight (places_in rest)) (n.places weight) (row weight (suc
+        (first_label + st.labels)) h.0)
         (h.1 weight ∙ ap (λ r. (n.places weight + weight (first_label + st.labels)) + r) next),
   );
-  same = λ n m rooms places st rest h. (h.0, λ weight. h.1 weight ∙ ap (λ q. q + row weight (first_label + st.labels) h.0) (places weight));
+  same = λ n m rooms places st rest h.
+      (h.0, λ weight. h.1 weight ∙ ap (λ q. q + row weight (first_label + st.labels) h.0) (places weight));
 }
 
 none_first : (a r : ℕ) → (0 + a) + r ≡ a + r
 none_first a r = omega arith
 
 -- of a whole program
-pub program_places : (ls : List LabelPlace) (g : Group) (l : ℕ) → (code : ℕ) × Weighs (placed_program ls g l) first_label (code_program (MkProgram ls g l)) code
+pub program_places : (ls : List LabelPlace) (g : Group) (l : ℕ)
+    → (code : ℕ) × Weighs (placed_program ls g l) first_label (code_program (MkProgram ls g l)) code
 program_places ls g l =
     let n : Ahead = record { rooms = 1; places = none } in
     let all = program_carries placing placing_carried ls g l n (λ s. (0, λ weight. refl)) in

@@ -1,5 +1,6 @@
 -- A text 7 whose uses, levels and rooms fit is complete.
-use Rattle.std.proofs.Common.{◌≡◌, ◌<◌, ◌≤◌, ◌⊎◌, inl, inr, ℕ, zero, suc, ◌+◌, ◌-◌, Bool, true, false, List, [], ◌∷◌, refl, sym, ap, subst, arith, length}
+use Rattle.std.proofs.Common.{◌≡◌, ◌<◌, ◌≤◌, ◌⊎◌, inl, inr, ℕ, zero, suc, ◌+◌, ◌-◌, Bool, true, false, List, [], ◌∷◌, refl, sym}
+use Rattle.std.proofs.Common.{ap, subst, arith, length}
 use Rattle.std.specs.Prelude.{◌==◌, ◌^◌, ◌||◌, if◌then◌else◌, drop, nat_lt}
 use Rattle.std.proofs.lemmas.Bool.{eq-eqb, ltb-true}
 use Rattle.gier_symbol.specs.declared.symbol.Symbol.{Symbol}
@@ -28,7 +29,8 @@ goes_on before (s ∷ text) counted = omega arith
 abbrev chosen : Bool → ℕ
 chosen b = if b then 1 else 0
 
-stands_so : (label : ℕ) (q : Piece) (later : Bool) (often : ℕ) → (later ≡ true → 1 ≤ often) → (is_place label q || later) ≡ true → 1 ≤ times_at label q + often
+stands_so : (label : ℕ) (q : Piece) (later : Bool) (often : ℕ) → (later ≡ true → 1 ≤ often) → (is_place label q || later) ≡ true
+    → 1 ≤ times_at label q + often
 stands_so label (APlace found) later often h e = by (found == label) e
   where
     by : (b : Bool) → (b || later) ≡ true → 1 ≤ chosen b + often
@@ -45,7 +47,8 @@ stands_so label (AnOrder op value) later often h e = let more : 1 ≤ often = h 
 stands : (label : ℕ) (text : List Symbol) → is_placed label text ≡ true → 1 ≤ times label (places_in text)
 stands label [] e = cc
 stands label (s ∷ text) e =
-    subst (λ n. 1 ≤ n) (sym (first_is label s text)) (stands_so label (piece_of s) (is_placed label text) (times label (places_in text)) (stands label text) e)
+    subst (λ n. 1 ≤ n) (sym (first_is label s text)) (stands_so label (piece_of s) (is_placed label text) (times label
+    (places_in text)) (stands label text) e)
 
 absent_so : (b : Bool) (n : ℕ) → (b ≡ true → 1 ≤ n) → n ≡ 0 → b ≡ false
 absent_so true n h e = let some : 1 ≤ n = h refl in let no : ⊥ = omega arith in elim no [ ]
@@ -76,7 +79,8 @@ opened n [] closed = sym closed
 opened n (s ∷ text) closed = open_so (piece_of s) n text (λ m c. opened m text c) closed
 
 -- which one of its sort a label is
-place_below : (b : Bool) (label d c room : ℕ) → b ≡ nat_lt label (2 ^ 23) → (label < d) ⊎ ((2 ^ 23 ≤ label) × (label < 2 ^ 23 + c)) → d ≤ room → c ≤ room → d ≤ 2 ^ 23
+place_below : (b : Bool) (label d c room : ℕ) → b ≡ nat_lt label (2 ^ 23)
+    → (label < d) ⊎ ((2 ^ 23 ≤ label) × (label < 2 ^ 23 + c)) → d ≤ room → c ≤ room → d ≤ 2 ^ 23
     → (if b then label else label - 2 ^ 23) < room
 place_below true label d c room e (inl small) dr cr dn = omega arith
 place_below true label d c room e (inr (large, least)) dr cr dn =
@@ -98,22 +102,33 @@ module _ (t : Program) (bytes : ℕ) (scopes : IsInScope t) (few : HasFewLabels 
   place_fits label n =
       let all : length (places_in text) ≡ program_numbers t + code = (are_numbered t scopes).1.all in
       let most : length (places_in text) ≤ most_of bytes = sizes.labels in
-      place_below (nat_lt label (2 ^ 23)) label (program_numbers t) code (most_of bytes) refl n (omega arith) (omega arith) (few_declared t code (are_numbered t scopes).1 few)
+      place_below (nat_lt label (2 ^ 23)) label (program_numbers t) code (most_of bytes) refl n (omega arith) (omega arith)
+      (few_declared t code (are_numbered t scopes).1 few)
 
   known : (label : ℕ) → is_placed label text ≡ true → IsKnown (most_of bytes) label text
   known label e = record { fits = place_fits label (number label (stands label text e)); stands = e }
 
   -- one symbol, where those behind it suit
   one_suits : (q : Piece) (value w n : ℕ) (behind : List Symbol) → counted_at q value w behind (IsCounted (words_of q + w) behind)
-      → w + (words_of q + words_in behind) ≡ words_in text → closes_at q n (λ m. AreClosed m behind) → n + rooms_at q (rooms_in behind) ≤ rooms_in text
-      → ((label : ℕ) → times_at label q + times label (places_in behind) ≤ times label (places_in text)) → Fits text q behind → IsRight q
-      → ((m : ℕ) → IsCounted (words_of q + w) behind → AreClosed m behind → m + rooms_in behind ≤ rooms_in text → AllSuit (most_of bytes) text behind)
+      → w + (words_of q + words_in behind) ≡ words_in text → closes_at q n (λ m. AreClosed m behind)
+      → n + rooms_at q (rooms_in behind) ≤ rooms_in text
+      → ((label : ℕ) → times_at label q + times label (places_in behind) ≤ times label (places_in text)) → Fits text q behind
+      → IsRight q
+      → ((m : ℕ) → IsCounted (words_of q + w) behind → AreClosed m behind → m + rooms_in behind ≤ rooms_in text
+      → AllSuit (most_of bytes) text behind)
       → Suits (most_of bytes) text value q behind × AllSuit (most_of bytes) text behind
   one_suits (APlace label) value w n behind counted words closed rooms part fits right next =
       let one : chosen (label == label) ≡ 1 = ap chosen (eq-eqb label label refl) in
       let here : chosen (label == label) + times label (places_in behind) ≤ times label (places_in text) = part label in
-      let most : times label (places_in text) ≤ 1 = placed_once t code (are_numbered t scopes).1 few label in
-      ((place_fits label (number label (omega arith)), absent label behind (omega arith), goes_on (0 + w) behind counted), next n counted closed rooms)
+      let most : times label (places_in text) ≤ 1 = placed_once t code (are_numbered t scopes).1 few label in (
+        (
+          place_fits label (number label (omega arith)),
+          absent label behind (omega arith),
+          goes_on (0 + w) behind
+              counted,
+        ),
+        next n counted closed rooms,
+      )
   one_suits (AUse head label) value w n behind counted words closed rooms part fits right next =
       ((known label fits.0, fits.1, goes_on (1 + w) behind counted), next n counted closed rooms)
   one_suits (AWordUse label) value w n behind counted words closed rooms part fits right next =
@@ -134,19 +149,24 @@ module _ (t : Program) (bytes : ℕ) (scopes : IsInScope t) (few : HasFewLabels 
   one_suits (AnOrder op value1) value w n behind counted words closed rooms part fits right next =
       ((right, goes_on (1 + w) behind counted), next n counted closed rooms)
 
-  all_suit : (w n : ℕ) (rest : List Symbol) → IsCounted w rest → w + words_in rest ≡ words_in text → AreClosed n rest → n + rooms_in rest ≤ rooms_in text
-      → ((label : ℕ) → times label (places_in rest) ≤ times label (places_in text)) → AllFit text rest → AllRight rest → AllSuit (most_of bytes) text rest
+  all_suit : (w n : ℕ) (rest : List Symbol) → IsCounted w rest → w + words_in rest ≡ words_in text → AreClosed n rest
+      → n + rooms_in rest ≤ rooms_in text
+      → ((label : ℕ) → times label (places_in rest) ≤ times label (places_in text)) → AllFit text rest → AllRight rest
+      → AllSuit (most_of bytes) text rest
   all_suit w n [] counted words closed rooms part fits right = tt
   all_suit w n (s ∷ rest) counted words closed rooms part fits right =
       let parts : (label : ℕ) → times_at label (piece_of s) + times label (places_in rest) ≤ times label (places_in text) =
       λ label. subst (λ k. k ≤ times label (places_in text)) (first_is label s rest) (part label) in
       one_suits (piece_of s) s.value w n rest counted words closed rooms parts fits.0 right.0
-      (λ m c d r. all_suit (words_of (piece_of s) + w) m rest c (let e : w + (words_of (piece_of s) + words_in rest) ≡ words_in text = words in omega arith) d r
-      (λ label. let less : times_at label (piece_of s) + times label (places_in rest) ≤ times label (places_in text) = parts label in omega arith) fits.1 right.1)
+      (λ m c d r. all_suit (words_of (piece_of s) + w) m rest c (let e : w + (words_of (piece_of s) + words_in rest)
+      ≡ words_in text = words in omega arith) d r
+      (λ label. let less : times_at label (piece_of s) + times label (places_in rest) ≤ times label (places_in text) =
+      parts label in omega arith) fits.1 right.1)
 
 pub fitting_are_complete : FittingAreComplete
 fitting_are_complete t bytes scopes few sizes fits = record {
   few = sizes.words;
-  suits = all_suit t bytes scopes few sizes 0 0 (code_program t) (are_whole t).counted (omega arith) (are_whole t).closed (omega arith)
+  suits = all_suit t bytes scopes few sizes 0 0 (code_program t) (are_whole t).counted (omega arith) (are_whole t).closed (omega
+      arith)
       (λ label. omega arith) fits (all_right t);
 }

@@ -14,7 +14,8 @@ use Rattle.gier_tree.specs.OwnCount.{owns_in_unconditional}
 use Rattle.gier_tree.specs.Places.{Places, block_places, procedure_places, turn_places, first_formal}
 use Rattle.gier_tree.specs.Room.{block_header}
 use Rattle.gier_tree.specs.Texts.{Where, inner, further, behind_statement, behind_declaration, behind_declarations}
-use Rattle.gier_tree.specs.Trees.{Name, ValueType, IntegerType, BooleanType, TypeWord, Segment, MkSegment, NextSegment, Specification}
+use Rattle.gier_tree.specs.Trees.{Name, ValueType, IntegerType, BooleanType, TypeWord, Segment, MkSegment, NextSegment}
+use Rattle.gier_tree.specs.Trees.{Specification}
 use Rattle.gier_tree.specs.Trees.{Specifier, ValueSpec, ArraySpec, LabelSpec, SwitchSpec, StringSpec, ProcedureSpec, FunctionSpec}
 use Rattle.gier_tree.specs.Trees.{ValuePart, Heading, MkHeading, LabelPlace, Declaration, DeclareType, DeclareOwn, DeclareArrays}
 use Rattle.gier_tree.specs.Trees.{DeclareOwnArrays, DeclareSwitch, DeclareProcedure, Declarations, NoDeclarations}
@@ -75,7 +76,8 @@ formal_uncounted : (ss : List Specification) (vs : ValuePart) (x : ℕ) → kind
 formal_uncounted [] vs x = refl
 formal_uncounted (s ∷ ss) vs x = by (is_named x s.names) (formal_uncounted ss vs x)
   where
-    by : (b : Bool) → kind_numbers (formal_kind ss vs x) ≡ 0 → kind_numbers (if b then specified_kind s.specifier (is_by_value x vs) else formal_kind ss vs x) ≡ 0
+    by : (b : Bool) → kind_numbers (formal_kind ss vs x) ≡ 0
+        → kind_numbers (if b then specified_kind s.specifier (is_by_value x vs) else formal_kind ss vs x) ≡ 0
     by true rest = specified_uncounted s.specifier (is_by_value x vs)
     by false rest = rest
 
@@ -95,7 +97,8 @@ add_before x a y r z e1 e2 = omega arith
 add_scope : (x a y r s q : ℕ) → a ≡ y + s → y ≡ r → q ≡ r + s → x + a ≡ (x + 0) + q
 add_scope x a y r s q e1 e2 e3 = omega arith
 
-add_block : (pd pds ps pss e f l m ef efl lm r0 r1 r2 r3 r4 q1 q2 q3 q4 : ℕ) → pd ≡ e + r1 → pds ≡ f + r2 → ps ≡ l + r3 → pss ≡ m + r4
+add_block : (pd pds ps pss e f l m ef efl lm r0 r1 r2 r3 r4 q1 q2 q3 q4 : ℕ) → pd ≡ e + r1 → pds ≡ f + r2 → ps ≡ l + r3
+    → pss ≡ m + r4
     → efl ≡ r0 → efl ≡ ef + lm → ef ≡ e + f → lm ≡ l + m → q1 ≡ r0 + r1 → q2 ≡ q1 + r2 → q3 ≡ q2 + r3 → q4 ≡ q3 + r4
     → pd + (pds + (ps + pss)) ≡ 0 + q4
 add_block pd pds ps pss e f l m ef efl lm r0 r1 r2 r3 r4 q1 q2 q3 q4 e1 e2 e3 e4 e5 e6 e7 e8 e9 e10 e11 e12 = omega arith
@@ -105,16 +108,19 @@ module _ (weight : ℕ → ℕ) where
   labels_weight p ls = placed_labels p ls weight
 
   -- entries that aren't numbered
-  named_uncounted : (p : Places) (what : Described) → kind_numbers what.kind ≡ 0 → (xs : List Name) → entries_weight weight p (map (entry what) xs) ≡ 0
+  named_uncounted : (p : Places) (what : Described) → kind_numbers what.kind ≡ 0 → (xs : List Name)
+      → entries_weight weight p (map (entry what) xs) ≡ 0
   named_uncounted p what none [] = refl
   named_uncounted p what none (x ∷ xs) =
       ap (λ n. counted n (weight (p x.number).address) + entries_weight weight p (map (entry what) xs)) none
       ∙ (let rest : entries_weight weight p (map (entry what) xs) ≡ 0 = named_uncounted p what none xs in ap (λ n. 0 + n) rest)
 
-  formals_uncounted : (p : Places) (h : Heading) (xs : List Name) → entries_weight weight p (map (λ x. entry (plain (kind_in h x.number)) x) xs) ≡ 0
+  formals_uncounted : (p : Places) (h : Heading) (xs : List Name)
+      → entries_weight weight p (map (λ x. entry (plain (kind_in h x.number)) x) xs) ≡ 0
   formals_uncounted p h [] = refl
   formals_uncounted p h (x ∷ xs) =
-      ap (λ n. counted n (weight (p x.number).address) + entries_weight weight p (map (λ y. entry (plain (kind_in h y.number)) y) xs)) (kind_uncounted h x.number)
+      ap (λ n. counted n (weight (p x.number).address) + entries_weight weight p (map
+      (λ y. entry (plain (kind_in h y.number)) y) xs)) (kind_uncounted h x.number)
       ∙ ap (λ n. 0 + n) (formals_uncounted p h xs)
 
   segment_uncounted : (p : Places) (t : ValueType) (s : Segment) → entries_weight weight p (segment_entries t s) ≡ 0
@@ -124,16 +130,19 @@ module _ (weight : ℕ → ℕ) where
   segments_uncounted p t [] = refl
   segments_uncounted p t (s ∷ ss) =
       both_entries weight p (segment_entries t s.segment) (segments_entries t ss)
-      ∙ ap (λ n. n + entries_weight weight p (segments_entries t ss)) (segment_uncounted p t s.segment) ∙ ap (λ n. 0 + n) (segments_uncounted p t ss)
+      ∙ ap (λ n. n + entries_weight weight p (segments_entries t ss)) (segment_uncounted p t s.segment)
+      ∙ ap (λ n. 0 + n) (segments_uncounted p t ss)
 
   -- one part behind another, and labels before a part
   part_behind : (p : Places) (ls ms : List LabelPlace) (from c d a b : ℕ) → a ≡ labels_weight p ls + row weight from c
       → b ≡ labels_weight p ms + row weight (from + c) d → a + b ≡ labels_weight p (ls ++ ms) + row weight from (c + d)
   part_behind p ls ms from c d a b h k =
-      add_up a b (labels_weight p ls) (labels_weight p ms) (row weight from c) (row weight (from + c) d) (labels_weight p (ls ++ ms)) (row weight from (c + d))
+      add_up a b (labels_weight p ls) (labels_weight p ms) (row weight from c) (row weight (from + c) d) (labels_weight p (ls
+      ++ ms)) (row weight from (c + d))
       h k (both_labels weight p ls ms) (rows weight from c d)
 
-  labels_before : (p : Places) (ls ms : List LabelPlace) (r a : ℕ) → a ≡ labels_weight p ms + r → labels_weight p ls + a ≡ labels_weight p (ls ++ ms) + r
+  labels_before : (p : Places) (ls ms : List LabelPlace) (r a : ℕ) → a ≡ labels_weight p ms + r
+      → labels_weight p ls + a ≡ labels_weight p (ls ++ ms) + r
   labels_before p ls ms r a h =
       add_before (labels_weight p ls) a (labels_weight p ms) r (labels_weight p (ls ++ ms)) h (both_labels weight p ls ms)
 
@@ -145,39 +154,49 @@ module _ (weight : ℕ → ℕ) where
 
   mutual
     declaration_is : (p : Places) (own : Scope) (w : Where) (d : Declaration) → InScopeDeclaration p own w d
-        → placed_declaration p w d weight ≡ entries_weight weight p (declaration_entries d) + row weight w.numbers (numbers_declaration d)
+        → placed_declaration p w d weight
+        ≡ entries_weight weight p (declaration_entries d) + row weight w.numbers (numbers_declaration d)
     declaration_is p own w (DeclareType t ns) h = nothing_placed _ (named_uncounted p _ (variables_uncounted t.type) (list_of ns))
     declaration_is p own w (DeclareOwn l t ns) h = refl
     declaration_is p own w (DeclareArrays t l s ss) h =
         nothing_placed _ (both_entries weight p (segment_entries t.type s) (segments_entries t.type ss)
-        ∙ ap (λ n. n + entries_weight weight p (segments_entries t.type ss)) (segment_uncounted p t.type s) ∙ ap (λ n. 0 + n) (segments_uncounted p t.type ss))
+        ∙ ap (λ n. n + entries_weight weight p (segments_entries t.type ss)) (segment_uncounted p t.type s)
+        ∙ ap (λ n. 0 + n) (segments_uncounted p t.type ss))
     declaration_is p own w (DeclareOwnArrays k t l s ss) h = refl
-    declaration_is p own w (DeclareSwitch l x m e es) h = let one : weight (p x.number).address ≡ (weight (p x.number).address + 0) + 0 = omega arith in one
+    declaration_is p own w (DeclareSwitch l x m e es) h = let one : weight (p x.number).address
+        ≡ (weight (p x.number).address + 0) + 0 = omega arith in one
     declaration_is p own w (DeclareProcedure (MkHeading t l x fs m vs ss) s) h =
         let g = MkHeading t l x fs m vs ss in
         let q = procedure_places (suc w.level) w.numbers g s p in
         let es = procedure_entries g s in
         let formals = map (λ y. entry (plain (kind_in g y.number)) y) (formals_of g) in
         let labels = label_entries (labels_of_statement s []) in
-        let body : placed_statement q (inner w es) s weight ≡ labels_weight q (labels_of_statement s []) + row weight (w.numbers + entries_numbers es) (numbers_statement s) =
+        let body : placed_statement q (inner w es) s weight
+        ≡ labels_weight q (labels_of_statement s []) + row weight (w.numbers + entries_numbers es) (numbers_statement s) =
         statement_is q (inner w es) s h.3 in
         let scope : labels_weight q (labels_of_statement s []) ≡ row weight w.numbers (entries_numbers es) =
         label_entries_weight weight q (labels_of_statement s []) ∙ none_more (entries_weight weight q labels)
-        ∙ ap (λ n. n + entries_weight weight q labels) (sym (formals_uncounted q g (formals_of g))) ∙ sym (both_entries weight q formals labels) ∙ own_numbers weight (suc w.level) (first_formal g) w.numbers es p h.2 in
-        add_scope (weight (p x.number).address) (placed_statement q (inner w es) s weight) (labels_weight q (labels_of_statement s []))
+        ∙ ap (λ n. n + entries_weight weight q labels) (sym (formals_uncounted q g (formals_of g)))
+        ∙ sym (both_entries weight q formals labels) ∙ own_numbers weight (suc w.level) (first_formal g) w.numbers es p h.2 in
+        add_scope (weight (p x.number).address) (placed_statement q (inner w es) s weight) (labels_weight q (labels_of_statement
+        s []))
         (row weight w.numbers (entries_numbers es)) (row weight (w.numbers + entries_numbers es) (numbers_statement s))
-        (row weight w.numbers (entries_numbers es + numbers_statement s)) body scope (rows weight w.numbers (entries_numbers es) (numbers_statement s))
-        ∙ ap (λ n. (counted n (weight (p x.number).address) + 0) + row weight w.numbers (entries_numbers es + numbers_statement s)) (sym (procedures_counted t))
+        (row weight w.numbers (entries_numbers es + numbers_statement s)) body scope (rows weight w.numbers (entries_numbers
+        es) (numbers_statement s))
+        ∙ ap (λ n. (counted n (weight (p x.number).address) + 0) + row weight w.numbers (entries_numbers es + numbers_statement
+        s)) (sym (procedures_counted t))
 
     declarations_are : (p : Places) (own : Scope) (w : Where) (ds : Declarations) → InScopeDeclarations p own w ds
-        → placed_declarations p w ds weight ≡ entries_weight weight p (declarations_entries ds) + row weight w.numbers (numbers_declarations ds)
+        → placed_declarations p w ds weight
+        ≡ entries_weight weight p (declarations_entries ds) + row weight w.numbers (numbers_declarations ds)
     declarations_are p own w NoDeclarations h = refl
     declarations_are p own w (MoreDeclarations d l ds) h =
         let c = numbers_declaration d in
         let k = numbers_declarations ds in
         add_up (placed_declaration p w d weight) (placed_declarations p (behind_declaration w d) ds weight)
         (entries_weight weight p (declaration_entries d)) (entries_weight weight p (declarations_entries ds))
-        (row weight w.numbers c) (row weight (w.numbers + c) k) (entries_weight weight p (declaration_entries d ++ declarations_entries ds)) (row weight w.numbers (c + k))
+        (row weight w.numbers c) (row weight (w.numbers + c) k) (entries_weight weight p (declaration_entries d
+        ++ declarations_entries ds)) (row weight w.numbers (c + k))
         (declaration_is p own w d h.0) (declarations_are p own (behind_declaration w d) ds h.1)
         (both_entries weight p (declaration_entries d) (declarations_entries ds)) (rows weight w.numbers c k)
 
@@ -195,40 +214,57 @@ module _ (weight : ℕ → ℕ) where
         let c2 = c1 + numbers_declarations ds in
         let c3 = c2 + numbers_statement s in
         let labels = labels_of_statement s (labels_of_statements ss []) in
-        let all : labels_weight q labels ≡ labels_weight q (labels_of_statement s []) + labels_weight q (labels_of_statements ss []) =
-        ap (labels_weight q) (split_statement s (labels_of_statements ss [])) ∙ both_labels weight q (labels_of_statement s []) (labels_of_statements ss []) in
+        let all : labels_weight q labels
+        ≡ labels_weight q (labels_of_statement s []) + labels_weight q (labels_of_statements ss []) =
+        ap (labels_weight q) (split_statement s (labels_of_statements ss []))
+        ∙ both_labels weight q (labels_of_statement s []) (labels_of_statements ss []) in
         let third : w.numbers + c0 + numbers_declaration d ≡ w.numbers + c1 = omega arith in
         let fourth : w.numbers + c0 + numbers_declaration d + numbers_declarations ds ≡ w.numbers + c2 = omega arith in
-        let fifth : w.numbers + c0 + numbers_declaration d + numbers_declarations ds + numbers_statement s ≡ w.numbers + c3 = omega arith in
-        add_block (placed_declaration q w1 d weight) (placed_declarations q w2 ds weight) (placed_statement q w3 s weight) (placed_statements q w4 ss weight)
+        let fifth : w.numbers + c0 + numbers_declaration d + numbers_declarations ds + numbers_statement s
+        ≡ w.numbers + c3 = omega arith in
+        add_block (placed_declaration q w1 d weight) (placed_declarations q w2 ds weight) (placed_statement q w3 s weight)
+        (placed_statements q w4 ss weight)
         (entries_weight weight q (declaration_entries d)) (entries_weight weight q (declarations_entries ds))
         (labels_weight q (labels_of_statement s [])) (labels_weight q (labels_of_statements ss []))
-        (entries_weight weight q (declaration_entries d ++ declarations_entries ds)) (entries_weight weight q es) (labels_weight q labels)
-        (row weight w.numbers c0) (row weight (w.numbers + c0) (numbers_declaration d)) (row weight (w.numbers + c1) (numbers_declarations ds))
+        (entries_weight weight q (declaration_entries d
+        ++ declarations_entries ds)) (entries_weight weight q es) (labels_weight q labels)
+        (row weight w.numbers c0) (row weight (w.numbers + c0) (numbers_declaration d)) (row weight (w.numbers +
+        c1) (numbers_declarations ds))
         (row weight (w.numbers + c2) (numbers_statement s)) (row weight (w.numbers + c3) (numbers_statements ss))
-        (row weight w.numbers c1) (row weight w.numbers c2) (row weight w.numbers c3) (row weight w.numbers (c3 + numbers_statements ss))
+        (row weight w.numbers c1) (row weight w.numbers c2) (row weight w.numbers c3) (row weight w.numbers (c3 +
+        numbers_statements ss))
         (declaration_is q (identifiers es) w1 d h.2)
-        (declarations_are q (identifiers es) w2 ds h.3 ∙ ap (λ r. entries_weight weight q (declarations_entries ds) + r) (row_from weight _ _ (numbers_declarations ds) third))
-        (statement_is q w3 s h.4 ∙ ap (λ r. labels_weight q (labels_of_statement s []) + r) (row_from weight _ _ (numbers_statement s) fourth))
-        (statements_are q w4 ss h.5 ∙ ap (λ r. labels_weight q (labels_of_statements ss []) + r) (row_from weight _ _ (numbers_statements ss) fifth))
+        (declarations_are q (identifiers es) w2 ds h.3
+        ∙ ap (λ r. entries_weight weight q (declarations_entries ds) + r) (row_from weight _ _ (numbers_declarations ds) third))
+        (statement_is q w3 s h.4 ∙ ap (λ r.
+        labels_weight q (labels_of_statement s []) + r) (row_from weight _ _ (numbers_statement s) fourth))
+        (statements_are q w4 ss h.5 ∙ ap (λ r.
+        labels_weight q (labels_of_statements ss []) + r) (row_from weight _ _ (numbers_statements ss) fifth))
         (own_numbers weight (suc w.level) block_header w.numbers es p h.1)
         (both_entries weight q (declaration_entries d ++ declarations_entries ds) (label_entries labels)
-        ∙ ap (λ n. entries_weight weight q (declaration_entries d ++ declarations_entries ds) + n) (sym (label_entries_weight weight q labels)))
+        ∙ ap (λ n. entries_weight weight q (declaration_entries d
+        ++ declarations_entries ds) + n) (sym (label_entries_weight weight q labels)))
         (both_entries weight q (declaration_entries d) (declarations_entries ds)) all
-        (rows weight w.numbers c0 (numbers_declaration d)) (rows weight w.numbers c1 (numbers_declarations ds)) (rows weight w.numbers c2 (numbers_statement s))
+        (rows weight w.numbers c0 (numbers_declaration d)) (rows weight w.numbers c1 (numbers_declarations
+        ds)) (rows weight w.numbers c2 (numbers_statement s))
         (rows weight w.numbers c3 (numbers_statements ss))
     group_is p w (MkCompound l s ss m) h =
         split_as p _ _ _ _ (split_statement s (labels_of_statements ss []))
-        (part_behind p (labels_of_statement s []) (labels_of_statements ss []) w.numbers (numbers_statement s) (numbers_statements ss)
-        (placed_statement p w s weight) (placed_statements p (behind_statement w s) ss weight) (statement_is p w s h.0) (statements_are p (behind_statement w s) ss h.1))
+        (part_behind p (labels_of_statement s []) (labels_of_statements ss []) w.numbers (numbers_statement
+        s) (numbers_statements ss)
+        (placed_statement p w s weight) (placed_statements p (behind_statement w
+        s) ss weight) (statement_is p w s h.0) (statements_are p (behind_statement w s) ss h.1))
 
     statements_are : (p : Places) (w : Where) (ss : Statements) → InScopeStatements p w ss
-        → placed_statements p w ss weight ≡ labels_weight p (labels_of_statements ss []) + row weight w.numbers (numbers_statements ss)
+        → placed_statements p w ss weight
+        ≡ labels_weight p (labels_of_statements ss []) + row weight w.numbers (numbers_statements ss)
     statements_are p w NoStatements h = refl
     statements_are p w (MoreStatements l s ss) h =
         split_as p _ _ _ _ (split_statement s (labels_of_statements ss []))
-        (part_behind p (labels_of_statement s []) (labels_of_statements ss []) w.numbers (numbers_statement s) (numbers_statements ss)
-        (placed_statement p w s weight) (placed_statements p (behind_statement w s) ss weight) (statement_is p w s h.0) (statements_are p (behind_statement w s) ss h.1))
+        (part_behind p (labels_of_statement s []) (labels_of_statements ss []) w.numbers (numbers_statement
+        s) (numbers_statements ss)
+        (placed_statement p w s weight) (placed_statements p (behind_statement w
+        s) ss weight) (statement_is p w s h.0) (statements_are p (behind_statement w s) ss h.1))
 
     statement_is : (p : Places) (w : Where) (s : Statement) → InScopeStatement p w s
         → placed_statement p w s weight ≡ labels_weight p (labels_of_statement s []) + row weight w.numbers (numbers_statement s)
@@ -237,8 +273,10 @@ module _ (weight : ℕ → ℕ) where
     statement_is p w (OneLoop f) h = loop_is p w f h
 
     unconditional_is : (p : Places) (w : Where) (u : Unconditional) → InScopeUnconditional p w u
-        → placed_unconditional p w u weight ≡ labels_weight p (labels_of_unconditional u []) + row weight w.numbers (numbers_unconditional u)
-    unconditional_is p w (MkUnconditional ls b) h = labels_before p ls (labels_of_basic b []) _ (placed_basic p w b weight) (basic_is p w b h)
+        → placed_unconditional p w u weight
+        ≡ labels_weight p (labels_of_unconditional u []) + row weight w.numbers (numbers_unconditional u)
+    unconditional_is p w (MkUnconditional ls b) h =
+        labels_before p ls (labels_of_basic b []) _ (placed_basic p w b weight) (basic_is p w b h)
 
     basic_is : (p : Places) (w : Where) (b : Basic) → InScopeBasic p w b
         → placed_basic p w b weight ≡ labels_weight p (labels_of_basic b []) + row weight w.numbers (numbers_basic b)
@@ -249,16 +287,20 @@ module _ (weight : ℕ → ℕ) where
     basic_is p w Dummy h = refl
 
     conditional_is : (p : Places) (w : Where) (c : Conditional) → InScopeConditional p w c
-        → placed_conditional p w c weight ≡ labels_weight p (labels_of_conditional c []) + row weight w.numbers (numbers_conditional c)
+        → placed_conditional p w c weight
+        ≡ labels_weight p (labels_of_conditional c []) + row weight w.numbers (numbers_conditional c)
     conditional_is p w (IfThen ls l e m u) h =
         labels_before p ls (labels_of_unconditional u []) _ (placed_unconditional p w u weight) (unconditional_is p w u h.1)
     conditional_is p w (IfElse ls l e m u n s) h =
         let behind = further w (numbers_unconditional u) (owns_in_unconditional u) in
-        labels_before p ls (labels_of_unconditional u (labels_of_statement s [])) (row weight w.numbers (numbers_unconditional u + numbers_statement s))
+        labels_before p ls (labels_of_unconditional u (labels_of_statement s [])) (row weight w.numbers (numbers_unconditional u
+        + numbers_statement s))
         (placed_unconditional p w u weight + placed_statement p behind s weight)
         (split_as p _ _ _ _ (split_unconditional u (labels_of_statement s []))
-        (part_behind p (labels_of_unconditional u []) (labels_of_statement s []) w.numbers (numbers_unconditional u) (numbers_statement s)
-        (placed_unconditional p w u weight) (placed_statement p behind s weight) (unconditional_is p w u h.1) (statement_is p behind s h.2)))
+        (part_behind p (labels_of_unconditional u []) (labels_of_statement s []) w.numbers (numbers_unconditional
+        u) (numbers_statement s)
+        (placed_unconditional p w u weight) (placed_statement p behind s weight) (unconditional_is p w u h.1) (statement_is p
+        behind s h.2)))
     conditional_is p w (IfLoop ls l e m f) h =
         labels_before p ls (labels_of_loop f []) _ (placed_loop p w f weight) (loop_is p w f h.1)
 
@@ -268,10 +310,12 @@ module _ (weight : ℕ → ℕ) where
         let es = turn_entries s in
         let q = turn_places w.level w.numbers s p in
         let behind = further w (entries_numbers es) 0 in
-        let body : placed_statement q behind s weight ≡ labels_weight q (labels_of_statement s []) + row weight (w.numbers + entries_numbers es) (numbers_statement s) =
+        let body : placed_statement q behind s weight
+        ≡ labels_weight q (labels_of_statement s []) + row weight (w.numbers + entries_numbers es) (numbers_statement s) =
         statement_is q behind s h.2 in
         let scope : labels_weight q (labels_of_statement s []) ≡ row weight w.numbers (entries_numbers es) =
         label_entries_weight weight q (labels_of_statement s []) ∙ own_numbers weight w.level 0 w.numbers es p h.1 in
         labels_before p ls [] (row weight w.numbers (entries_numbers es + numbers_statement s)) (placed_statement q behind s weight)
-        (let both : row weight w.numbers (entries_numbers es + numbers_statement s) ≡ row weight w.numbers (entries_numbers es) + row weight (w.numbers + entries_numbers es) (numbers_statement s) =
+        (let both : row weight w.numbers (entries_numbers es + numbers_statement s)
+        ≡ row weight w.numbers (entries_numbers es) + row weight (w.numbers + entries_numbers es) (numbers_statement s) =
         rows weight w.numbers (entries_numbers es) (numbers_statement s) in omega arith)

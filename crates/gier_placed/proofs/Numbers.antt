@@ -26,24 +26,31 @@ declared_are ls g l h weight =
     let p = program_places t in
     let own = entries_numbers (program_entries t) in
     let scope : placed_labels p ls weight + placed_labels p (labels_of_group g []) weight ≡ row weight 0 own =
-    sym (both_labels weight p ls (labels_of_group g [])) ∙ label_entries_weight weight p (labels_of_program t) ∙ own_numbers weight 1 0 0 (program_entries t) standard_places h.0 in
-    add_all (placed_program ls g l weight) (placed_group p (in_program t) g weight) (placed_labels p ls weight) (placed_labels p (labels_of_group g []) weight)
+    sym (both_labels weight p ls (labels_of_group g [])) ∙ label_entries_weight weight p (labels_of_program t)
+    ∙ own_numbers weight 1 0 0 (program_entries t) standard_places h.0 in
+    add_all (placed_program ls g l weight) (placed_group p (in_program
+    t) g weight) (placed_labels p ls weight) (placed_labels p (labels_of_group g []) weight)
     (row weight 0 own) (row weight own (numbers_group g)) (row weight 0 (own + numbers_group g))
     (group_is weight p (in_program t) g h.1) scope
-    (rows weight 0 own (numbers_group g) ∙ ap (λ n. row weight 0 own + n) (row_from weight (0 + own) own (numbers_group g) (omega arith))) refl
+    (rows weight 0 own (numbers_group g)
+    ∙ ap (λ n. row weight 0 own + n) (row_from weight (0 + own) own (numbers_group g) (omega arith))) refl
 
 pub are_numbered : AreNumbered
 are_numbered (MkProgram ls g l) h =
     let t = MkProgram ls g l in
     let all = places_weigh ls g l in
-    let weighs : (weight : ℕ → ℕ) → sum weight (places_in (code_program t)) ≡ row weight 0 (program_numbers t) + row weight first_label all.0 =
+    let weighs : (weight : ℕ → ℕ) → sum weight (places_in (code_program t))
+    ≡ row weight 0 (program_numbers t) + row weight first_label all.0 =
     λ weight. all.1 weight ∙ ap (λ n. n + row weight first_label all.0) (declared_are ls g l h weight) in (
       all.0,
       record {
         labels = λ x. sym (times_is x (places_in (code_program t))) ∙ weighs (chosen x)
-            ∙ ap (λ n. n + row (chosen x) first_label all.0) (row_is (chosen x) 0 (program_numbers t) ∙ times_is x (numbered 0 (program_numbers t)))
-            ∙ ap (λ n. times x (numbered 0 (program_numbers t)) + n) (row_is (chosen x) first_label all.0 ∙ times_is x (numbered first_label all.0));
-        all = sym (length_is (places_in (code_program t))) ∙ weighs each ∙ ap (λ n. n + row each first_label all.0) (length_of 0 (program_numbers t))
+            ∙ ap (λ n. n + row (chosen x) first_label all.0) (row_is (chosen x) 0 (program_numbers t)
+            ∙ times_is x (numbered 0 (program_numbers t)))
+            ∙ ap (λ n. times x (numbered 0 (program_numbers t)) + n) (row_is (chosen x) first_label all.0
+            ∙ times_is x (numbered first_label all.0));
+        all = sym (length_is (places_in (code_program t))) ∙ weighs each
+            ∙ ap (λ n. n + row each first_label all.0) (length_of 0 (program_numbers t))
             ∙ ap (λ n. program_numbers t + n) (length_of first_label all.0);
       },
     )

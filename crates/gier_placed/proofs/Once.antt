@@ -12,13 +12,15 @@ below : (x from count : ℕ) → x < from → times x (numbered from count) ≡ 
 below x from zero h = refl
 below x from (suc count) h =
     let rest : times x (numbered (suc from) count) ≡ 0 = below x (suc from) count (omega arith) in
-    ap (λ b. (if b then 1 else 0) + times x (numbered (suc from) count)) (ne_eqb from x (λ e. let no : ⊥ = omega arith in no)) ∙ ap (λ n. 0 + n) rest
+    ap (λ b. (if b then 1 else 0) + times x (numbered (suc from) count)) (ne_eqb from x (λ e. let no : ⊥ = omega arith in no))
+    ∙ ap (λ n. 0 + n) rest
 
 above : (x from count : ℕ) → from + count ≤ x → times x (numbered from count) ≡ 0
 above x from zero h = refl
 above x from (suc count) h =
     let rest : times x (numbered (suc from) count) ≡ 0 = above x (suc from) count (omega arith) in
-    ap (λ b. (if b then 1 else 0) + times x (numbered (suc from) count)) (ne_eqb from x (λ e. let no : ⊥ = omega arith in no)) ∙ ap (λ n. 0 + n) rest
+    ap (λ b. (if b then 1 else 0) + times x (numbered (suc from) count)) (ne_eqb from x (λ e. let no : ⊥ = omega arith in no))
+    ∙ ap (λ n. 0 + n) rest
 
 either : (a b : ℕ) → (a < b) ⊎ (b ≤ a)
 either zero zero = inr (omega arith)
@@ -34,12 +36,15 @@ among : (x from count : ℕ) → from ≤ x → x < from + count → times x (nu
 among x from zero h k = let no : ⊥ = omega arith in absurd no
 among x from (suc count) h k = by (either from x) (λ later. among x (suc from) count later (omega arith))
   where
-    by : (from < x) ⊎ (x ≤ from) → (suc from ≤ x → times x (numbered (suc from) count) ≡ 1) → times x (numbered from (suc count)) ≡ 1
+    by : (from < x) ⊎ (x ≤ from) → (suc from ≤ x → times x (numbered (suc from) count) ≡ 1)
+        → times x (numbered from (suc count)) ≡ 1
     by (inl less) rest =
         let one : times x (numbered (suc from) count) ≡ 1 = rest (omega arith) in
-        ap (λ b. (if b then 1 else 0) + times x (numbered (suc from) count)) (ne_eqb from x (λ e. let no : ⊥ = omega arith in no)) ∙ ap (λ n. 0 + n) one
+        ap (λ b. (if b then 1 else 0) + times x (numbered (suc from) count)) (ne_eqb from x (λ e. let no : ⊥ =
+        omega arith in no)) ∙ ap (λ n. 0 + n) one
     by (inr same) rest =
-        ap (λ b. (if b then 1 else 0) + times x (numbered (suc from) count)) (eq-eqb from x (omega arith)) ∙ ap (λ n. 1 + n) (below x (suc from) count (omega arith))
+        ap (λ b. (if b then 1 else 0) + times x (numbered (suc from) count)) (eq-eqb from x (omega arith))
+        ∙ ap (λ n. 1 + n) (below x (suc from) count (omega arith))
 
 -- a number of those that are declared, or of the code
 abbrev pub IsNumber : (t : Program) → (code x : ℕ) → Type 0
@@ -50,12 +55,15 @@ module _ (t : Program) (code : ℕ) (h : HasPlaces t code) (few : HasFewLabels t
   stands x = times x (places_in (code_program t))
 
   pub few_declared : program_numbers t ≤ first_label
-  few_declared = let all : length (places_in (code_program t)) ≡ program_numbers t + code = h.all in let f : length (places_in (code_program t)) ≤ first_label = few in omega arith
+  few_declared = let all : length (places_in (code_program t))
+      ≡ program_numbers t + code = h.all in let f : length (places_in (code_program t)) ≤ first_label = few in omega arith
 
   pub few_of_code : code ≤ first_label
-  few_of_code = let all : length (places_in (code_program t)) ≡ program_numbers t + code = h.all in let f : length (places_in (code_program t)) ≤ first_label = few in omega arith
+  few_of_code = let all : length (places_in (code_program t))
+      ≡ program_numbers t + code = h.all in let f : length (places_in (code_program t)) ≤ first_label = few in omega arith
 
-  from_both : (x a b : ℕ) → times x (numbered 0 (program_numbers t)) ≡ a → times x (numbered first_label code) ≡ b → stands x ≡ a + b
+  from_both : (x a b : ℕ) → times x (numbered 0 (program_numbers t)) ≡ a → times x (numbered first_label code) ≡ b
+      → stands x ≡ a + b
   from_both x a b e f = h.labels x ∙ ap (λ n. n + times x (numbered first_label code)) e ∙ ap (λ n. a + n) f
 
   pub one_place : (x : ℕ) → IsNumber t code x → stands x ≡ 1
@@ -74,7 +82,8 @@ module _ (t : Program) (code : ℕ) (h : HasPlaces t code) (few : HasFewLabels t
   pub which : (x : ℕ) → IsNumber t code x ⊎ (stands x ≡ 0)
   which x = by (either x (program_numbers t)) (either x first_label) (either x (first_label + code))
     where
-      by : (x < program_numbers t) ⊎ (program_numbers t ≤ x) → (x < first_label) ⊎ (first_label ≤ x) → (x < first_label + code) ⊎ (first_label + code ≤ x)
+      by : (x < program_numbers t) ⊎ (program_numbers t ≤ x) → (x < first_label) ⊎ (first_label ≤ x)
+          → (x < first_label + code) ⊎ (first_label + code ≤ x)
           → IsNumber t code x ⊎ (stands x ≡ 0)
       by (inl a) b c = inl (inl a)
       by (inr a) (inl b) c = inr (no_place x a (inl b))

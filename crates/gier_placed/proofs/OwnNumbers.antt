@@ -31,14 +31,17 @@ module _ (weight : ℕ → ℕ) where
   skips x at p [] d = refl
   skips x at p (e ∷ es) d =
       let other = neither (e.name.number == x) (declares (identifiers es) x) d in
-      ap (λ b. counted (kind_numbers e.what.kind) (weight (if b then at else p e.name.number).address) + entries_weight (λ y. if y == x then at else p y) es) other.0
+      ap (λ b. counted (kind_numbers e.what.kind) (weight (if b then at else p e.name.number).address) + entries_weight (λ y.
+      if y == x then at else p y) es) other.0
       ∙ ap (λ n. counted (kind_numbers e.what.kind) (weight (p e.name.number).address) + n) (skips x at p es other.1)
 
-  its_own : (address number : ℕ) (kind : Kind) → counted (kind_numbers kind) (weight (address_or_number kind address number)) ≡ row weight number (kind_numbers kind)
+  its_own : (address number : ℕ) (kind : Kind)
+      → counted (kind_numbers kind) (weight (address_or_number kind address number)) ≡ row weight number (kind_numbers kind)
   its_own address number kind =
       let one : weight number ≡ weight number + 0 = omega arith in
       each_kind (λ k. counted (kind_numbers k) (weight (address_or_number k address number)) ≡ row weight number (kind_numbers k))
-      refl refl refl refl refl one one one one one refl refl refl refl refl refl refl refl refl refl refl refl refl refl refl refl refl refl refl refl kind
+      refl refl refl refl refl one one one one one refl refl refl refl refl refl refl refl refl refl refl refl refl refl refl
+      refl refl refl refl refl kind
 
   -- all entries of a scope
   pub own_numbers : (level address number : ℕ) (es : List Entry) (p : Places) → AreDistinct (identifiers es)
@@ -48,23 +51,30 @@ module _ (weight : ℕ → ℕ) where
       let k = e.what.kind in
       let at : Placed = record { what = e.what; level = level; address = address_or_number k address number } in
       let more = place_all level (address + kind_words k e.what.count) (number + kind_numbers k) es p in
-      let here : counted (kind_numbers k) (weight (if e.name.number == e.name.number then at else more e.name.number).address) ≡ row weight number (kind_numbers k) =
-      ap (λ b. counted (kind_numbers k) (weight (if b then at else more e.name.number).address)) (eq-eqb e.name.number e.name.number refl) ∙ its_own address number k in
-      let rest : entries_weight (λ y. if y == e.name.number then at else more y) es ≡ row weight (number + kind_numbers k) (entries_numbers es) =
-      skips e.name.number at more es apart.0 ∙ own_numbers level (address + kind_words k e.what.count) (number + kind_numbers k) es p apart.1 in
-      ap (λ n. n + entries_weight (λ y. if y == e.name.number then at else more y) es) here ∙ ap (λ n. row weight number (kind_numbers k) + n) rest
+      let here : counted (kind_numbers k) (weight (if e.name.number == e.name.number then at else more e.name.number).address)
+      ≡ row weight number (kind_numbers k) =
+      ap (λ b. counted (kind_numbers k) (weight
+      (if b then at else more e.name.number).address)) (eq-eqb e.name.number e.name.number refl) ∙ its_own address number k in
+      let rest : entries_weight (λ y. if y == e.name.number then at else more y) es
+      ≡ row weight (number + kind_numbers k) (entries_numbers es) =
+      skips e.name.number at more es apart.0
+      ∙ own_numbers level (address + kind_words k e.what.count) (number + kind_numbers k) es p apart.1 in
+      ap (λ n. n + entries_weight (λ y. if y == e.name.number then at else more y) es) here
+      ∙ ap (λ n. row weight number (kind_numbers k) + n) rest
       ∙ sym (rows weight number (kind_numbers k) (entries_numbers es))
 
   grouped : (a b c : ℕ) → a + (b + c) ≡ (a + b) + c
   grouped a b c = omega arith
 
-  pub both_entries : (p : Places) (es more : List Entry) → entries_weight p (es ++ more) ≡ entries_weight p es + entries_weight p more
+  pub both_entries : (p : Places) (es more : List Entry)
+      → entries_weight p (es ++ more) ≡ entries_weight p es + entries_weight p more
   both_entries p [] more = let e : entries_weight p more ≡ 0 + entries_weight p more = omega arith in e
   both_entries p (e ∷ es) more =
       let x = counted (kind_numbers e.what.kind) (weight (p e.name.number).address) in
       ap (λ n. x + n) (both_entries p es more) ∙ grouped x (entries_weight p es) (entries_weight p more)
 
-  pub both_labels : (p : Places) (ls more : List LabelPlace) → placed_labels p (ls ++ more) weight ≡ placed_labels p ls weight + placed_labels p more weight
+  pub both_labels : (p : Places) (ls more : List LabelPlace)
+      → placed_labels p (ls ++ more) weight ≡ placed_labels p ls weight + placed_labels p more weight
   both_labels p [] more = let e : placed_labels p more weight ≡ 0 + placed_labels p more weight = omega arith in e
   both_labels p (l ∷ ls) more =
       ap (λ n. weight (p l.name.number).address + n) (both_labels p ls more)

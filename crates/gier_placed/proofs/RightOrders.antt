@@ -96,5 +96,8 @@ right_carried = record {
 }
 
 pub all_right : (t : Program) → AllRight (code_program t)
-all_right (MkProgram ls g l) =
-    (tt, program_carries right_claim right_carried ls g l (record { rooms = 1; places = none }) (λ s. (order_number op.Stop, (tt, (tt, tt)))))
+all_right (MkProgram ls g l) = (
+  tt,
+  program_carries right_claim right_carried ls g l (record { rooms = 1; places = none }) (λ s.
+      (order_number op.Stop, (tt, (tt, tt)))),
+)

@@ -18,7 +18,8 @@ module _ (weight : ℕ → ℕ) where
   pub rows : (from a b : ℕ) → row from (a + b) ≡ row from a + row (from + a) b
   rows from zero b =
       let start : row from b ≡ row (from + 0) b = row_from from (from + 0) b (omega arith) in
-      ap (row from) (let e : 0 + b ≡ b = omega arith in e) ∙ start ∙ (let e : row (from + 0) b ≡ 0 + row (from + 0) b = omega arith in e)
+      ap (row from) (let e : 0 + b ≡ b = omega arith in e) ∙ start
+      ∙ (let e : row (from + 0) b ≡ 0 + row (from + 0) b = omega arith in e)
   rows from (suc a) b =
       let one : suc a + b ≡ suc (a + b) = omega arith in
       let r : row (suc from) (a + b) ≡ row (suc from) a + row (suc from + a) b = rows (suc from) a b in

@@ -26,7 +26,8 @@ some_words (s ∷ text) (inr later) = let more : 1 ≤ words_in text = some_word
 
 -- each label that stands in a text has its address among those of the text's words
 abbrev pub AreAmong : List Symbol → Type 0
-AreAmong text = (label w : ℕ) → 1 ≤ times label (places_in text) → (w ≤ address_of text label w) × (address_of text label w < w + words_in text)
+AreAmong text = (label w : ℕ) → 1 ≤ times label (places_in text)
+    → (w ≤ address_of text label w) × (address_of text label w < w + words_in text)
 
 abbrev among_claim : Claim
 among_claim n st rest = HasStop rest × AreAmong rest
@@ -35,7 +36,8 @@ among_claim n st rest = HasStop rest × AreAmong rest
 over : (s : Symbol) (rest : List Symbol) → ((label : ℕ) → times_at label (piece_of s) ≡ 0) → AreAmong rest → AreAmong (s ∷ rest)
 over s rest none h label w some =
     let no : times_at label (piece_of s) ≡ 0 = none label in
-    let first : times label (places_in (s ∷ rest)) ≡ times_at label (piece_of s) + times label (places_in rest) = first_is label s rest in
+    let first : times label (places_in (s ∷ rest))
+    ≡ times_at label (piece_of s) + times label (places_in rest) = first_is label s rest in
     let v = w + words_of (piece_of s) in
     let same : address_of (s ∷ rest) label w ≡ address_of rest label v = passed label w (address_of rest label v) (piece_of s) no in
     let least : v ≤ address_of rest label v = (h label v (omega arith)).0 in
@@ -49,7 +51,8 @@ placed x line rest stop h label w some = by (x == label) some
     chosen b = if b then 1 else 0
 
     by : (b : Bool) → 1 ≤ chosen b + times label (places_in rest)
-        → (w ≤ (if b then w else address_of rest label (w + 0))) × ((if b then w else address_of rest label (w + 0)) < w + (0 + words_in rest))
+        → (w ≤ (if b then w else address_of rest label (w + 0)))
+        × ((if b then w else address_of rest label (w + 0)) < w + (0 + words_in rest))
     by true some = let words : 1 ≤ words_in rest = some_words rest stop in (omega arith, omega arith)
     by false some =
         let here : 1 ≤ 0 + times label (places_in rest) = some in
@@ -59,7 +62,11 @@ placed x line rest stop h label w some = by (x == label) some
 
 among_carried : IsCarried among_claim
 among_carried = record {
-  an_order = λ o other value line n st rest h. (inr h.0, over (record { tag = order_base + number_of o; value = value; line = line }) rest (λ label. ap (times_at label) (piece_is o value line)) h.1);
+  an_order = λ o other value line n st rest h. (
+    inr h.0,
+    over (record { tag = order_base + number_of o; value = value; line = line }) rest (λ label.
+        ap (times_at label) (piece_is o value line)) h.1,
+  );
   a_use = λ value line n st rest h. (inr h.0, over (symbol LabelOrder value line) rest (λ label. refl) h.1);
   a_word_use = λ value line n st rest h. (inr h.0, over (symbol LabelWord value line) rest (λ label. refl) h.1);
   a_word = λ value line n st rest h. (inr h.0, over (symbol Word value line) rest (λ label. refl) h.1);

@@ -61,7 +61,8 @@ put_counted : (g h : List Symbol → List Symbol) (m n : ℕ) (c : State)
 put_counted g h m n (MkState o d sc w f NotOwn at fr) = ap (λ z. MkState (g (h o)) d sc w f NotOwn z fr) (bounds_sum m n at)
 put_counted g h m n (MkState o d sc w f (MayBeOwn part) at fr) =
     ap (λ z. MkState o d sc w f (MayBeOwn (λ k. g (h (part k)))) z fr) (bounds_sum m n at)
-put_counted g h m n (MkState o d sc w f (IsOwn y t) at fr) = ap (λ z. MkState o (g (h d)) sc w f (IsOwn y t) z fr) (bounds_sum m n at)
+put_counted g h m n (MkState o d sc w f (IsOwn y t) at fr) =
+    ap (λ z. MkState o (g (h d)) sc w f (IsOwn y t) z fr) (bounds_sum m n at)
 
 pub both_counted : {os : List Name} {m n : ℕ} {g g' h h' : List Symbol → List Symbol} → CopiesBounds os m g g'
     → CopiesBounds os n h h' → CopiesBounds os (m + n) (λ k. g (h k)) (λ k. g' (h' k))
@@ -120,7 +121,8 @@ copied_constant : (os : List Name) (x : Constant) → CopiesBounds os 1 (text_co
 copied_constant os (Unsigned n l) =
     both_counted (bound_opens os l) (both_counted (uncounted (one os (sym Number n l) refl refl)) (bound_shuts os l))
 copied_constant os (WithSign o k n l) =
-    both_counted (bound_opens os k) (both_counted (uncounted (one os (word (leading_tag o) k) (leading_copied o) (leading_unused o)))
+    both_counted (bound_opens os k) (both_counted (uncounted
+    (one os (word (leading_tag o) k) (leading_copied o) (leading_unused o)))
     (both_counted (uncounted (one os (sym Number n l) refl refl)) (bound_shuts os l)))
 
 copied_fixed : (os : List Name) (x : FixedPair) → CopiesBounds os 2 (text_fixed_pair x) (text_fixed_pair x)

@@ -18,7 +18,8 @@ use Rattle.gier_tree.specs.Written.{actual_by, expected_kinds, further_expected,
 use Rattle.gier_tree.specs.Written.{text_implication, text_disjunction, text_conjunction, text_negation, text_relation}
 use Rattle.gier_tree.specs.Written.{text_arithmetic, text_term, text_factor, text_primary, text_call, text_element, text_actual}
 use Rattle.gier_tree.specs.Written.{text_actuals, text_subscripts}
-use Rattle.gier_tree.specs.Trees.{Name, Byte, Adding, Add, Subtract, Multiplying, Multiply, Divide, Comparing, LessThan, AtMost, EqualTo}
+use Rattle.gier_tree.specs.Trees.{Name, Byte, Adding, Add, Subtract, Multiplying, Multiply, Divide, Comparing, LessThan, AtMost}
+use Rattle.gier_tree.specs.Trees.{EqualTo}
 use Rattle.gier_tree.specs.Trees.{AtLeast, MoreThan, Unequal, Expr, OneSimple, IfExpr, Simple, OneImplication, Equivalent}
 use Rattle.gier_tree.specs.Trees.{Implication, OneDisjunction, Implies, Disjunction, OneConjunction, Either, Conjunction}
 use Rattle.gier_tree.specs.Trees.{OneNegation, Both, Negation, OneRelation, Negated, Relation, OneArithmetic, Compared}
@@ -104,12 +105,16 @@ never_marked false l k = refl
 
 pub copied_alone : (os : List Name) (p q : Places) (b c : Bool) (x : Name)
     → Copies os (text_name (marked_text os) p b x) (text_name (collected_text os) q c x)
-copied_alone os p q b true x = MkCopies (λ k. ap (λ r. fold_written os (used_name (marked_text os) p x r)) (never_marked b x.line k))
-copied_alone os p q b false x = MkCopies (λ k. ap (λ r. fold_written os (used_name (marked_text os) p x r)) (never_marked b x.line k))
+copied_alone os p q b true x = MkCopies (λ k.
+    ap (λ r. fold_written os (used_name (marked_text os) p x r)) (never_marked b x.line k))
+copied_alone os p q b false x =
+    MkCopies (λ k. ap (λ r. fold_written os (used_name (marked_text os) p x r)) (never_marked b x.line k))
 
 pub marked_alone : (os : List Name) (p : Places) (g : Expected) (e : Expr) (k : List Symbol)
     → actual_by (name_alone e) (marked_text os) p g (text_expr (marked_text os) p e k) k ≡ text_expr (marked_text os) p e k
-marked_alone os p g (OneSimple (OneImplication (OneDisjunction (OneConjunction (OneNegation (OneRelation (OneArithmetic (OneTerm (OneFactor (OnePrimary (OneCall (Alone x)))))))))))) k =
+marked_alone os p g (OneSimple (OneImplication
+    (OneDisjunction (OneConjunction (OneNegation
+    (OneRelation (OneArithmetic (OneTerm (OneFactor (OnePrimary (OneCall (Alone x)))))))))))) k =
     ap (λ r. used_name (marked_text os) p x r) (never_marked _ x.line k ∙ back (never_marked _ x.line k))
 marked_alone os p g _ k = refl
 
@@ -124,72 +129,119 @@ expression_alone os p q g h e (MkCopies a) = MkCopies (λ k.
     (fun_ext (λ r. ap (λ z. opens MActual (first_expr e) ∷ z) (back (alone_is os q h e (shuts MActual (last_expr e) ∷ r))))))
 
 mutual
-  pub copied_expr : (os : List Name) (p q : Places) (x : Expr) → Copies os (text_expr (marked_text os) p x) (text_expr (collected_text os) q x)
+  pub copied_expr : (os : List Name) (p q : Places) (x : Expr)
+      → Copies os (text_expr (marked_text os) p x) (text_expr (collected_text os) q x)
   copied_expr os p q (OneSimple y) = copied_simple os p q y
-  copied_expr os p q (IfExpr l c m s n e) = (both (other_opens os MConditional l refl) (both (one os (word If l) refl refl) (both (copied_expr os p q c) (both (one os (word Then m) refl refl) (both (copied_simple os p q s) (both (one os (word Else n) refl refl) (both (copied_expr os p q e) (other_shuts os MConditional (last_expr e) refl))))))))
+  copied_expr os p q (IfExpr l c m s n e) =
+      (both (other_opens os MConditional l refl) (both (one os (word If l) refl refl)
+      (both (copied_expr os p q c) (both (one os (word Then m) refl refl)
+      (both (copied_simple os p q s) (both (one os (word Else n) refl refl)
+      (both (copied_expr os p q e) (other_shuts os MConditional (last_expr e) refl))))))))
 
-  pub copied_simple : (os : List Name) (p q : Places) (x : Simple) → Copies os (text_simple (marked_text os) p x) (text_simple (collected_text os) q x)
+  pub copied_simple : (os : List Name) (p q : Places) (x : Simple)
+      → Copies os (text_simple (marked_text os) p x) (text_simple (collected_text os) q x)
   copied_simple os p q (OneImplication y) = copied_implication os p q y
-  copied_simple os p q (Equivalent y l z) = (both (copied_simple os p q y) (both (one os (word Equiv l) refl refl) (copied_implication os p q z)))
+  copied_simple os p q (Equivalent y l z) =
+      (both (copied_simple os p q y) (both (one os (word Equiv l) refl refl) (copied_implication os p q z)))
 
-  pub copied_implication : (os : List Name) (p q : Places) (x : Implication) → Copies os (text_implication (marked_text os) p x) (text_implication (collected_text os) q x)
+  pub copied_implication : (os : List Name) (p q : Places) (x : Implication)
+      → Copies os (text_implication (marked_text os) p x) (text_implication (collected_text os) q x)
   copied_implication os p q (OneDisjunction y) = copied_disjunction os p q y
-  copied_implication os p q (Implies y l z) = (both (copied_implication os p q y) (both (one os (word Impl l) refl refl) (copied_disjunction os p q z)))
+  copied_implication os p q (Implies y l z) =
+      (both (copied_implication os p q y) (both (one os (word Impl l) refl refl) (copied_disjunction os p q z)))
 
-  pub copied_disjunction : (os : List Name) (p q : Places) (x : Disjunction) → Copies os (text_disjunction (marked_text os) p x) (text_disjunction (collected_text os) q x)
+  pub copied_disjunction : (os : List Name) (p q : Places) (x : Disjunction)
+      → Copies os (text_disjunction (marked_text os) p x) (text_disjunction (collected_text os) q x)
   copied_disjunction os p q (OneConjunction y) = copied_conjunction os p q y
-  copied_disjunction os p q (Either y l z) = (both (copied_disjunction os p q y) (both (one os (word Or l) refl refl) (copied_conjunction os p q z)))
+  copied_disjunction os p q (Either y l z) =
+      (both (copied_disjunction os p q y) (both (one os (word Or l) refl refl) (copied_conjunction os p q z)))
 
-  pub copied_conjunction : (os : List Name) (p q : Places) (x : Conjunction) → Copies os (text_conjunction (marked_text os) p x) (text_conjunction (collected_text os) q x)
+  pub copied_conjunction : (os : List Name) (p q : Places) (x : Conjunction)
+      → Copies os (text_conjunction (marked_text os) p x) (text_conjunction (collected_text os) q x)
   copied_conjunction os p q (OneNegation y) = copied_negation os p q y
-  copied_conjunction os p q (Both y l z) = (both (copied_conjunction os p q y) (both (one os (word And l) refl refl) (copied_negation os p q z)))
+  copied_conjunction os p q (Both y l z) =
+      (both (copied_conjunction os p q y) (both (one os (word And l) refl refl) (copied_negation os p q z)))
 
-  pub copied_negation : (os : List Name) (p q : Places) (x : Negation) → Copies os (text_negation (marked_text os) p x) (text_negation (collected_text os) q x)
+  pub copied_negation : (os : List Name) (p q : Places) (x : Negation)
+      → Copies os (text_negation (marked_text os) p x) (text_negation (collected_text os) q x)
   copied_negation os p q (OneRelation y) = copied_relation os p q y
   copied_negation os p q (Negated l y) = (both (one os (word Not l) refl refl) (copied_relation os p q y))
 
-  pub copied_relation : (os : List Name) (p q : Places) (x : Relation) → Copies os (text_relation (marked_text os) p x) (text_relation (collected_text os) q x)
+  pub copied_relation : (os : List Name) (p q : Places) (x : Relation)
+      → Copies os (text_relation (marked_text os) p x) (text_relation (collected_text os) q x)
   copied_relation os p q (OneArithmetic y) = copied_arithmetic os p q y
-  copied_relation os p q (Compared y o l z) = (both (copied_arithmetic os p q y) (both (one os (word (comparing_tag o) l) (comparing_copied o) (comparing_unused o)) (copied_arithmetic os p q z)))
+  copied_relation os p q (Compared y o l z) =
+      (both (copied_arithmetic os p q y) (both (one os (word (comparing_tag o) l) (comparing_copied o) (comparing_unused o))
+      (copied_arithmetic os p q z)))
 
-  pub copied_arithmetic : (os : List Name) (p q : Places) (x : Arithmetic) → Copies os (text_arithmetic (marked_text os) p x) (text_arithmetic (collected_text os) q x)
+  pub copied_arithmetic : (os : List Name) (p q : Places) (x : Arithmetic)
+      → Copies os (text_arithmetic (marked_text os) p x) (text_arithmetic (collected_text os) q x)
   copied_arithmetic os p q (OneTerm y) = copied_term os p q y
-  copied_arithmetic os p q (Signed o l y) = (both (one os (word (leading_tag o) l) (leading_copied o) (leading_unused o)) (copied_term os p q y))
-  copied_arithmetic os p q (Summed y o l z) = (both (copied_arithmetic os p q y) (both (one os (word (adding_tag o) l) (adding_copied o) (adding_unused o)) (copied_term os p q z)))
+  copied_arithmetic os p q (Signed o l y) =
+      (both (one os (word (leading_tag o) l) (leading_copied o) (leading_unused o)) (copied_term os p q y))
+  copied_arithmetic os p q (Summed y o l z) =
+      (both (copied_arithmetic os p q y) (both (one os (word (adding_tag o) l) (adding_copied o) (adding_unused o))
+      (copied_term os p q z)))
 
-  pub copied_term : (os : List Name) (p q : Places) (x : Term) → Copies os (text_term (marked_text os) p x) (text_term (collected_text os) q x)
+  pub copied_term : (os : List Name) (p q : Places) (x : Term)
+      → Copies os (text_term (marked_text os) p x) (text_term (collected_text os) q x)
   copied_term os p q (OneFactor y) = copied_factor os p q y
-  copied_term os p q (Multiplied y o l z) = (both (copied_term os p q y) (both (one os (word (multiplying_tag o) l) (multiplying_copied o) (multiplying_unused o)) (copied_factor os p q z)))
+  copied_term os p q (Multiplied y o l z) =
+      (both (copied_term os p q y) (both (one os (word (multiplying_tag o) l) (multiplying_copied o) (multiplying_unused o))
+      (copied_factor os p q z)))
 
-  pub copied_factor : (os : List Name) (p q : Places) (x : Factor) → Copies os (text_factor (marked_text os) p x) (text_factor (collected_text os) q x)
+  pub copied_factor : (os : List Name) (p q : Places) (x : Factor)
+      → Copies os (text_factor (marked_text os) p x) (text_factor (collected_text os) q x)
   copied_factor os p q (OnePrimary y) = copied_primary os p q y
-  copied_factor os p q (Raised y l z) = (both (copied_factor os p q y) (both (one os (word Power l) refl refl) (copied_primary os p q z)))
+  copied_factor os p q (Raised y l z) =
+      (both (copied_factor os p q y) (both (one os (word Power l) refl refl) (copied_primary os p q z)))
 
-  pub copied_primary : (os : List Name) (p q : Places) (x : Primary) → Copies os (text_primary (marked_text os) p x) (text_primary (collected_text os) q x)
+  pub copied_primary : (os : List Name) (p q : Places) (x : Primary)
+      → Copies os (text_primary (marked_text os) p x) (text_primary (collected_text os) q x)
   copied_primary os p q (Numeral n l) = one os (sym Number n l) refl refl
   copied_primary os p q (Logical b l) = one os (word (logical_tag b) l) (logical_copied b) (logical_unused b)
-  copied_primary os p q (Bracketed l e m) = (both (one os (word LeftParenthesis l) refl refl) (both (copied_expr os p q e) (one os (word RightParenthesis m) refl refl)))
+  copied_primary os p q (Bracketed l e m) =
+      (both (one os (word LeftParenthesis l) refl refl) (both (copied_expr os p q e) (one os (word RightParenthesis m) refl refl)))
   copied_primary os p q (OneCall x) = copied_call os p q x
   copied_primary os p q (OneElement x) = copied_element os p q x
 
-  pub copied_call : (os : List Name) (p q : Places) (x : Call) → Copies os (text_call (marked_text os) p x) (text_call (collected_text os) q x)
-  copied_call os p q (Alone x) = copied_alone os p q (is_called_alone (p x.number).what.kind (p x.number).what.count) (is_called_alone (q x.number).what.kind (q x.number).what.count) x
-  copied_call os p q (WithActuals x l a more m) = (both (copied_use os p q x) (both (one os (word LeftParenthesis l) refl refl) (both (copied_actual os p q (expected_kinds (p x.number).what) (expected_kinds (q x.number).what) a) (both (copied_actuals os p q (further_expected (expected_kinds (p x.number).what)) (further_expected (expected_kinds (q x.number).what)) more) (one os (word RightParenthesis m) refl refl)))))
+  pub copied_call : (os : List Name) (p q : Places) (x : Call)
+      → Copies os (text_call (marked_text os) p x) (text_call (collected_text os) q x)
+  copied_call os p q (Alone x) = copied_alone os p q (is_called_alone (p x.number).what.kind (p
+      x.number).what.count) (is_called_alone (q x.number).what.kind (q x.number).what.count) x
+  copied_call os p q (WithActuals x l a more m) =
+      (both (copied_use os p q x) (both (one os (word LeftParenthesis l) refl refl)
+      (both (copied_actual os p q (expected_kinds (p x.number).what) (expected_kinds (q x.number).what) a) (both
+      (copied_actuals os p q (further_expected (expected_kinds (p x.number).what)) (further_expected
+      (expected_kinds (q x.number).what)) more) (one os (word RightParenthesis m) refl refl)))))
 
-  pub copied_element : (os : List Name) (p q : Places) (x : Element) → Copies os (text_element (marked_text os) p x) (text_element (collected_text os) q x)
-  copied_element os p q (Subscripted x l e es m) = (both (copied_use os p q x) (both (one os (word LeftBracket l) refl refl) (both (other_opens os MSubscript (first_expr e) refl) (both (copied_expr os p q e) (both (other_shuts os MSubscript (last_expr e) refl) (both (copied_subscripts os p q es) (one os (word RightBracket m) refl refl)))))))
+  pub copied_element : (os : List Name) (p q : Places) (x : Element)
+      → Copies os (text_element (marked_text os) p x) (text_element (collected_text os) q x)
+  copied_element os p q (Subscripted x l e es m) =
+      (both (copied_use os p q x) (both (one os (word LeftBracket l) refl refl)
+      (both (other_opens os MSubscript (first_expr e) refl) (both (copied_expr os p q e)
+      (both (other_shuts os MSubscript (last_expr e) refl) (both (copied_subscripts os p q es)
+      (one os (word RightBracket m) refl refl)))))))
 
   pub copied_actual : (os : List Name) (p q : Places) (g h : Expected) (x : Actual)
       → Copies os (text_actual (marked_text os) p g x) (text_actual (collected_text os) q h x)
-  copied_actual os p q g h (OneExpr e) = expression_alone os p q g h e (both (other_opens os MActual (first_expr e) refl) (both (copied_expr os p q e) (other_shuts os MActual (last_expr e) refl)))
-  copied_actual os p q g h (AString l bs m) = (both (other_opens os MActual l refl) (both (one os (word StringBegin l) refl refl) (both (copied_bytes os bs) (both (one os (word StringEnd m) refl refl) (other_shuts os MActual m refl)))))
+  copied_actual os p q g h (OneExpr e) =
+      expression_alone os p q g h e (both (other_opens os MActual (first_expr e) refl) (both (copied_expr os p q e)
+      (other_shuts os MActual (last_expr e) refl)))
+  copied_actual os p q g h (AString l bs m) =
+      (both (other_opens os MActual l refl) (both (one os (word StringBegin l) refl refl)
+      (both (copied_bytes os bs) (both (one os (word StringEnd m) refl refl) (other_shuts os MActual m refl)))))
 
   pub copied_actuals : (os : List Name) (p q : Places) (g h : Expected) (x : Actuals)
       → Copies os (text_actuals (marked_text os) p g x) (text_actuals (collected_text os) q h x)
   copied_actuals os p q g h NoActuals = nothing os
-  copied_actuals os p q g h (MoreActuals l a more) = (both (one os (word Comma l) refl refl) (both (copied_actual os p q g h a) (copied_actuals os p q (further_expected g) (further_expected h) more)))
+  copied_actuals os p q g h (MoreActuals l a more) =
+      (both (one os (word Comma l) refl refl) (both (copied_actual os p q g h a)
+      (copied_actuals os p q (further_expected g) (further_expected h) more)))
 
   pub copied_subscripts : (os : List Name) (p q : Places) (x : Exprs)
       → Copies os (text_subscripts (marked_text os) p x) (text_subscripts (collected_text os) q x)
   copied_subscripts os p q NoExprs = nothing os
-  copied_subscripts os p q (MoreExprs l e es) = (both (one os (word Comma l) refl refl) (both (other_opens os MSubscript (first_expr e) refl) (both (copied_expr os p q e) (both (other_shuts os MSubscript (last_expr e) refl) (copied_subscripts os p q es)))))
+  copied_subscripts os p q (MoreExprs l e es) =
+      (both (one os (word Comma l) refl refl) (both (other_opens os MSubscript (first_expr e) refl)
+      (both (copied_expr os p q e) (both (other_shuts os MSubscript (last_expr e) refl) (copied_subscripts os p q es)))))

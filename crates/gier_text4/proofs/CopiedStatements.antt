@@ -24,7 +24,8 @@ copied_left os p q (LeftElement e) = copied_element os p q e
 copied_lefts : (os : List Name) (p q : Places) (xs : List LeftPart)
     → Copies os (text_lefts (marked_text os) p xs) (text_lefts (collected_text os) q xs)
 copied_lefts os p q [] = nothing os
-copied_lefts os p q (x ∷ xs) = both (copied_left os p q x.left) (both (one os (word Becomes x.becomes) refl refl) (copied_lefts os p q xs))
+copied_lefts os p q (x ∷ xs) = both (copied_left os p q x.left) (both (one os (word Becomes x.becomes) refl refl) (copied_lefts
+    os p q xs))
 
 pub copied_assignment : (os : List Name) (p q : Places) (u v : Where) (x : LeftPart) (xs : List LeftPart) (e : Expr)
     → Copies os (text_basic (marked_text os) p u (Assign x xs e)) (text_basic (collected_text os) q v (Assign x xs e))
@@ -84,4 +85,5 @@ copied_elements os p q (MoreExprs l e es) =
 pub copied_switch : (os : List Name) (p q : Places) (m : ℕ) (e : Expr) (es : Exprs)
     → Copies os (λ k. word Becomes m ∷ text_switch_element (marked_text os) p e (text_switch_elements (marked_text os) p es k))
     (λ k. word Becomes m ∷ text_switch_element (collected_text os) q e (text_switch_elements (collected_text os) q es k))
-copied_switch os p q m e es = both (one os (word Becomes m) refl refl) (both (copied_element_of os p q e) (copied_elements os p q es))
+copied_switch os p q m e es = both (one os (word Becomes m) refl refl) (both (copied_element_of os p q e) (copied_elements os p
+    q es))

@@ -21,7 +21,8 @@ use Rattle.gier_text4.specs.State.{MkState, put, typed}
 use Rattle.gier_text4.proofs.Copying.{fold_written, as_written, marked_text, one}
 use Rattle.gier_text4.proofs.Bounds.{CopiesBounds, copies_bounds, both_counted, uncounted, so_many, copied_all_pairs, counted_on}
 use Rattle.gier_text4.proofs.DeclaredNames.{SegmentSpot, held_names, names_read, names_typed}
-use Rattle.gier_text4.proofs.Calm.{calm, begun, begun_out, begun_open, begun_waits, more_own, more_out, more_open, put_open, more_waits}
+use Rattle.gier_text4.proofs.Calm.{calm, begun, begun_out, begun_open, begun_waits, more_own, more_out, more_open, put_open}
+use Rattle.gier_text4.proofs.Calm.{more_waits}
 
 -- entries before one list are entries before another
 pub all_app : (a b : List Entry) (l : ℕ) (r : List Symbol) → all_entries (a ++ b) l r ≡ all_entries a l (all_entries b l r)
@@ -64,14 +65,16 @@ segment_begins (SomeHeld h) FrameBegin m o d e es w = refl
 segment_read : (os : List Name) (p q : Places) (s : Segment) (b : Before) (k o d e : List Symbol) (es : List (List Symbol))
     (w : List Symbol) (fr : Frame) → fold_written os k ≡ MkState o d (e ∷ es) w [] NotOwn (at_before b) fr
     → fold_written os (text_segment (marked_text os) p s k)
-    ≡ MkState (text_segment (collected_text os) q s o) d (e ∷ es) w [] NotOwn (at_before (SomeHeld (held_segment s (held_before b)))) fr
+    ≡ MkState (text_segment (collected_text os) q s o) d (e
+    ∷ es) w [] NotOwn (at_before (SomeHeld (held_segment s (held_before b)))) fr
 segment_read os p q (MkSegment (MkNames x ns) l a qs m) b k o d e es w fr h =
     let s = shuts MSegment m in
     let own = begun fr s in
     let hd = held_before b in
     let g : List Symbol → List Symbol = λ r. word LeftBracket l ∷ text_pair (marked_text os) p a (text_pairs (marked_text os) p qs
     (word RightBracket m ∷ r)) in
-    let g' : List Symbol → List Symbol = λ r. word LeftBracket l ∷ text_pair (collected_text os) q a (text_pairs (collected_text os) q qs
+    let g' : List Symbol → List Symbol = λ r. word LeftBracket l
+    ∷ text_pair (collected_text os) q a (text_pairs (collected_text os) q qs
     (word RightBracket m ∷ r)) in
     let n : 0 + (2 + 2 * length qs + 0) ≡ 2 + 2 * length qs = omega arith in
     let c : CopiesBounds os (2 + 2 * length qs) g g' =
@@ -86,13 +89,15 @@ segment_read os p q (MkSegment (MkNames x ns) l a qs m) b k o d e es w fr h =
     copies_bounds os (2 + 2 * length qs) g g' c k1
     ∙ ap (λ z. put g' (counted_on (2 + 2 * length qs) z)) h1
     ∙ put_open own (begun_open fr s) g' (begun_out fr s o) d (e ∷ es) w [] (InSegment (bounds_of qs) hd []) fr in
-    let h3 = names_read os (SegmentSpot (bounds_of qs)) own2 (more_open own (begun_open fr s) g') ns x (g k1) o2 d (e ∷ es) w [] hd [] fr
+    let h3 = names_read os (SegmentSpot (bounds_of qs)) own2 (more_open own (begun_open fr s) g') ns x (g k1) o2 d (e
+    ∷ es) w [] hd [] fr
     h2 in
     let hd3 = held_names (SegmentSpot (bounds_of qs)) x ns hd in
     let waits : waiting own2 o2 ≡ g' (s ∷ o) =
     more_waits own (begun_open fr s) g' (begun_out fr s o) ∙ ap g' (begun_waits fr s o) in
     ap (step (opens MSegment x.line)) h3
-    ∙ ap (λ z. MkState (opens MSegment x.line ∷ names_as Declaring (MkNames x ns) z) d (e ∷ es) w [] NotOwn (BetweenSegments hd3 []) fr)
+    ∙ ap (λ z. MkState (opens MSegment x.line ∷ names_as Declaring (MkNames x ns) z) d (e
+    ∷ es) w [] NotOwn (BetweenSegments hd3 []) fr)
     waits
 
 segments_read : (os : List Name) (p q : Places) (ss : List NextSegment) (k o d e : List Symbol) (es : List (List Symbol))
@@ -104,7 +109,8 @@ segments_read os p q (s ∷ ss) k o d e es w fr h =
     ap (step (word Comma s.comma)) (segment_read os p q s.segment (held_segments ss) (text_segments (marked_text os) p ss k)
     (text_segments (collected_text os) q ss o) d e es w fr (segments_read os p q ss k o d e es w fr h))
 
-array_ends : (os : List Name) (t : ValueType) (i l : ℕ) (o d e : List Symbol) (es : List (List Symbol)) (w h : List Symbol) (fr : Frame)
+array_ends : (os : List Name) (t : ValueType) (i l : ℕ) (o d e : List Symbol) (es : List (List
+    Symbol)) (w h : List Symbol) (fr : Frame)
     → step (as_written os (word (type_tag t) i)) (step (word Array l) (MkState o d (e ∷ es) w [] NotOwn (BetweenSegments h []) fr))
     ≡ calm (word (type_tag t) i ∷ word Array l ∷ o) d (typed (kind_number (array_kind t)) h e ∷ es) w fr
 array_ends os IntegerType i l o d e es w h fr = refl
@@ -131,13 +137,15 @@ segments_typed t (s ∷ ss) r =
 
 pub arrays_declared : (os : List Name) (p q : Places) (t : ValueType) (i l : ℕ) (s : Segment) (ss : List NextSegment)
     (k o d e : List Symbol) (es : List (List Symbol)) (w : List Symbol) (fr : Frame) → fold_written os k ≡ calm o d (e ∷ es) w fr
-    → fold_written os (word (type_tag t) i ∷ word Array l ∷ text_segment (marked_text os) p s (text_segments (marked_text os) p ss k))
+    → fold_written os (word (type_tag t) i ∷ word Array l
+    ∷ text_segment (marked_text os) p s (text_segments (marked_text os) p ss k))
     ≡ calm (word (type_tag t) i ∷ word Array l ∷ text_segment (collected_text os) q s (text_segments (collected_text os) q ss o)) d
     (all_entries (segment_entries t s ++ segments_entries t ss) 0 e ∷ es) w fr
 arrays_declared os p q t i l s ss k o d e es w fr h =
     let o1 = text_segment (collected_text os) q s (text_segments (collected_text os) q ss o) in
     let h1 = segments_read os p q ss k o d e es w fr h in
-    let h2 = segment_read os p q s (held_segments ss) (text_segments (marked_text os) p ss k) (text_segments (collected_text os) q ss o)
+    let h2 = segment_read os p q s (held_segments ss) (text_segments (marked_text os) p ss k) (text_segments (collected_text
+    os) q ss o)
     d e es w fr h1 in
     ap (λ c. step (as_written os (word (type_tag t) i)) (step (word Array l) c)) h2
     ∙ array_ends os t i l o1 d e es w (held_segment s (held_before (held_segments ss))) fr

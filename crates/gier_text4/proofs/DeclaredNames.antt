@@ -82,7 +82,8 @@ pub names_read : (os : List Name) (sp : Spot) (own : Owning) → IsOpen own → 
 names_read os sp own a [] x k o d sc w f h i fr e =
     ap (step (sym Declaring x.number x.line)) e ∙ declare_open sp own a x o d sc w f h i fr
 names_read os sp own a (n ∷ ns) x k o d sc w f h i fr e =
-    ap (λ c. step (sym Declaring x.number x.line) (step (word Comma n.comma) c)) (names_read os sp own a ns n.name k o d sc w f h i fr e)
+    ap (λ c. step (sym Declaring x.number x.line) (step (word Comma n.comma)
+    c)) (names_read os sp own a ns n.name k o d sc w f h i fr e)
     ∙ declare_open sp NotOwn OpenNot x (word Comma n.comma ∷ names_as Declaring (MkNames n.name ns) (waiting own o)) d sc w f
     (held_names sp n.name ns h) i fr
 

@@ -17,7 +17,8 @@ use Rattle.gier_text4.specs.PurePass.{step, waiting}
 use Rattle.gier_text4.specs.State.{NotOwn, MayBeOwn, IsOwn, Frame, NoFrame, WholeFrame, FrameBegin, InType}
 use Rattle.gier_text4.specs.State.{MkState, typed}
 use Rattle.gier_text4.proofs.Copying.{fold_written, as_written}
-use Rattle.gier_text4.proofs.DeclaredNames.{TypeSpot, described_at, kind_at, held_names, held_own, held_fresh, OwningMay, names_read}
+use Rattle.gier_text4.proofs.DeclaredNames.{TypeSpot, described_at, kind_at, held_names, held_own, held_fresh, OwningMay}
+use Rattle.gier_text4.proofs.DeclaredNames.{names_read}
 use Rattle.gier_text4.proofs.DeclaredNames.{owns_read, names_typed, fresh_typed, own_typed}
 use Rattle.gier_text4.proofs.Calm.{calm, begun, begun_out, begun_open, begun_waits}
 
@@ -28,7 +29,8 @@ type_begins os NoFrame m o d e es w = refl
 type_begins os (WholeFrame l) m o d e es w = refl
 type_begins os FrameBegin m o d e es w = refl
 
-type_ends : (os : List Name) (t : ValueType) (i l : ℕ) (o d e : List Symbol) (es : List (List Symbol)) (w h : List Symbol) (fr : Frame)
+type_ends : (os : List Name) (t : ValueType) (i l : ℕ) (o d e : List Symbol) (es : List (List
+    Symbol)) (w h : List Symbol) (fr : Frame)
     → step (opens MType l) (step (as_written os (word (type_tag t) i)) (MkState o d (e ∷ es) w [] NotOwn (InType h []) fr))
     ≡ calm (opens MType l ∷ word (type_tag t) i ∷ o) d (typed (kind_at TypeSpot t) h e ∷ es) w fr
 type_ends os IntegerType i l o d e es w h fr = refl

@@ -4,7 +4,8 @@ use Rattle.std.specs.Prelude.{Option, None, Some}
 use Rattle.gier_symbol.specs.declared.symbol.Symbol.{Symbol}
 use Rattle.gier_symbol.specs.declared.tag.Tag.{Tag}
 use Rattle.gier_symbol.specs.declared.tag.Tag.TheVariants.{Number, Comma, Colon, Semicolon, LeftParenthesis, RightParenthesis}
-use Rattle.gier_symbol.specs.declared.tag.Tag.TheVariants.{LeftBracket, RightBracket, Array, Switch, Procedure, String, Label, Value}
+use Rattle.gier_symbol.specs.declared.tag.Tag.TheVariants.{LeftBracket, RightBracket, Array, Switch, Procedure, String, Label}
+use Rattle.gier_symbol.specs.declared.tag.Tag.TheVariants.{Value}
 use Rattle.gier_symbol.specs.declared.tag.Tag.TheVariants.{Declaring, Formal, ValueListed, Specified}
 use Rattle.gier_symbol.specs.ByTag.{sym, word}
 use Rattle.gier_tree.specs.declared.construct.Construct.TheVariants.{ArraySegment as MSegment, Bound as MBound}
@@ -12,10 +13,12 @@ use Rattle.gier_tree.specs.Lines.{first_expr, last_expr, first_name}
 use Rattle.gier_tree.specs.Places.{Places}
 use Rattle.gier_tree.specs.Spell.{type_tag, spell_type, spell_option_type, spell_specifier}
 use Rattle.gier_tree.specs.Texts.{next_names, names_as, declares, text_bound, text_pair, text_pairs, text_segment, text_segments}
-use Rattle.gier_tree.specs.Texts.{text_constant, text_fixed_pair, text_further_pairs, text_formals, text_values, text_specifications}
+use Rattle.gier_tree.specs.Texts.{text_constant, text_fixed_pair, text_further_pairs, text_formals, text_values}
+use Rattle.gier_tree.specs.Texts.{text_specifications}
 use Rattle.gier_tree.specs.Texts.{text_heading}
 use Rattle.gier_tree.specs.Trees.{Name, Expr, NextName, Names, MkNames, TypeWord, BoundPair, MkPair, NextPair, Segment, MkSegment}
-use Rattle.gier_tree.specs.Trees.{NextSegment, Constant, Unsigned, WithSign, FixedPair, MkFixedPair, FurtherPairs, NoFurther, MoreFurther}
+use Rattle.gier_tree.specs.Trees.{NextSegment, Constant, Unsigned, WithSign, FixedPair, MkFixedPair, FurtherPairs, NoFurther}
+use Rattle.gier_tree.specs.Trees.{MoreFurther}
 use Rattle.gier_tree.specs.Trees.{Formals, NoFormals, FormalList, ValuePart, NoValues, ValueList, Specifier, ValueSpec, ArraySpec}
 use Rattle.gier_tree.specs.Trees.{LabelSpec, SwitchSpec, StringSpec, ProcedureSpec, FunctionSpec, Specification, Heading, MkHeading}
 use Rattle.gier_tree.specs.Written.{opens, shuts, leading_tag}
@@ -43,14 +46,17 @@ dropped_bound P os p e =
 dropped_pair : (P : Symbol → Type 0) (os : List Name) (p : Places) (x : BoundPair) → Drops P (text_pair (marked_text os) p x)
 dropped_pair P os p (MkPair a l b) = after (dropped_bound P os p a) (after (first P (word Colon l)) (dropped_bound P os p b))
 
-dropped_pairs : (P : Symbol → Type 0) (os : List Name) (p : Places) (xs : List NextPair) → Drops P (text_pairs (marked_text os) p xs)
+dropped_pairs : (P : Symbol → Type 0) (os : List Name) (p : Places) (xs : List NextPair)
+    → Drops P (text_pairs (marked_text os) p xs)
 dropped_pairs P os p [] = none P
 dropped_pairs P os p (x ∷ xs) = after (first P (word Comma x.comma)) (after (dropped_pair P os p x.pair) (dropped_pairs P os p xs))
 
-pub dropped_segment : (P : Symbol → Type 0) (os : List Name) (p : Places) (s : Segment) → Drops P (text_segment (marked_text os) p s)
+pub dropped_segment : (P : Symbol → Type 0) (os : List Name) (p : Places) (s : Segment)
+    → Drops P (text_segment (marked_text os) p s)
 dropped_segment P os p (MkSegment ns l q qs m) =
     after (first P (opens MSegment (first_name ns))) (after (dropped_names P Declaring ns) (after (first P (word LeftBracket l))
-    (after (dropped_pair P os p q) (after (dropped_pairs P os p qs) (after (first P (word RightBracket m)) (first P (shuts MSegment m)))))))
+    (after (dropped_pair P os p q) (after (dropped_pairs P os p qs)
+    (after (first P (word RightBracket m)) (first P (shuts MSegment m)))))))
 
 pub dropped_segments : (P : Symbol → Type 0) (os : List Name) (p : Places) (ss : List NextSegment)
     → Drops P (text_segments (marked_text os) p ss)

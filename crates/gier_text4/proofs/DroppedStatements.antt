@@ -25,9 +25,11 @@ dropped_left P os p (LeftElement e) = dropped_element P os p e
 dropped_lefts : (P : Symbol → Type 0) (os : List Name) (p : Places) (xs : List LeftPart)
     → Drops P (text_lefts (marked_text os) p xs)
 dropped_lefts P os p [] = none P
-dropped_lefts P os p (x ∷ xs) = after (dropped_left P os p x.left) (after (first P (word Becomes x.becomes)) (dropped_lefts P os p xs))
+dropped_lefts P os p (x ∷ xs) =
+    after (dropped_left P os p x.left) (after (first P (word Becomes x.becomes)) (dropped_lefts P os p xs))
 
-pub dropped_assignment : (P : Symbol → Type 0) (os : List Name) (p : Places) (u : Where) (x : LeftPart) (xs : List LeftPart) (e : Expr)
+pub dropped_assignment : (P : Symbol
+    → Type 0) (os : List Name) (p : Places) (u : Where) (x : LeftPart) (xs : List LeftPart) (e : Expr)
     → Drops P (text_basic (marked_text os) p u (Assign x xs e))
 dropped_assignment P os p u x xs e = after (dropped_lefts P os p (x ∷ xs)) (dropped_expr P os p e)
 
@@ -60,7 +62,8 @@ dropped_next_turns P os p (x ∷ xs) =
     after (first P (word Comma x.comma)) (after (dropped_turns P os p x.turns) (dropped_next_turns P os p xs))
 
 -- what stands before the controlled statement, labels not counted
-pub dropped_for : (P : Symbol → Type 0) (os : List Name) (p : Places) (l : ℕ) (x : Name) (m : ℕ) (t : Turns) (ts : List NextTurns) (n : ℕ)
+pub dropped_for : (P : Symbol → Type 0) (os : List Name) (p : Places) (l : ℕ) (x : Name) (m : ℕ) (t : Turns) (ts : List
+    NextTurns) (n : ℕ)
     → Drops P (λ k. word For l ∷ used_name (marked_text os) p x (word Becomes m ∷ text_turns (marked_text os) p t
     (text_next_turns (marked_text os) p ts (word Do n ∷ k))))
 dropped_for P os p l x m t ts n = after (first P (word For l)) (after (dropped_use P os p x)

@@ -9,19 +9,25 @@ use Rattle.gier_tree.specs.Entries.{declaration_entries}
 use Rattle.gier_tree.specs.Hoist.{fresh_next, fresh_names, pair_of, constant_expr, further_pairs, fresh_segment, fresh_segments}
 use Rattle.gier_tree.specs.Hoist.{count_fixed, without_own, last_fixed, hoisted_declarations}
 use Rattle.gier_tree.specs.Lines.{first_name, last_name, last_next_name}
-use Rattle.gier_tree.specs.OwnCount.{owns_of_declaration, owns_of_declarations, owns_of_group, owns_of_statements, owns_of_statement}
+use Rattle.gier_tree.specs.OwnCount.{owns_of_declaration, owns_of_declarations, owns_of_group, owns_of_statements}
+use Rattle.gier_tree.specs.OwnCount.{owns_of_statement}
 use Rattle.gier_tree.specs.OwnCount.{owns_of_unconditional, owns_of_basic, owns_of_conditional, owns_of_loop, owns_in_declaration}
 use Rattle.gier_tree.specs.Places.{Places}
 use Rattle.gier_tree.specs.Spell.{type_tag}
-use Rattle.gier_tree.specs.Texts.{Where, behind_declaration, all_entries, entries_of_all, names_as, text_bound, text_pair, text_pairs}
+use Rattle.gier_tree.specs.Texts.{Where, behind_declaration, all_entries, entries_of_all, names_as, text_bound, text_pair}
+use Rattle.gier_tree.specs.Texts.{text_pairs}
 use Rattle.gier_tree.specs.Texts.{text_segment, text_segments, text_constant, text_fixed_pair, text_further_pairs}
 use Rattle.gier_tree.specs.Texts.{text_declarations, fixed_count, next_names, declares}
 use Rattle.gier_tree.specs.Trees.{Name, NextName, Names, MkNames, TypeWord, Constant, Unsigned, WithSign, FixedPair, MkFixedPair}
 use Rattle.gier_tree.specs.Trees.{FurtherPairs, NoFurther, MoreFurther, most_further, FixedSegment, MkFixed, NextFixed}
-use Rattle.gier_tree.specs.Trees.{Declaration, DeclareType, DeclareOwn, DeclareArrays, DeclareOwnArrays, DeclareSwitch, DeclareProcedure}
-use Rattle.gier_tree.specs.Trees.{Declarations, NoDeclarations, MoreDeclarations, Group, MkBlock, MkCompound, Statements, NoStatements}
-use Rattle.gier_tree.specs.Trees.{MoreStatements, Statement, OneUnconditional, OneConditional, OneLoop, Unconditional, MkUnconditional}
-use Rattle.gier_tree.specs.Trees.{Basic, OneGroup, Assign, Jump, CallStatement, Dummy, Conditional, IfThen, IfElse, IfLoop, Loop, MkLoop}
+use Rattle.gier_tree.specs.Trees.{Declaration, DeclareType, DeclareOwn, DeclareArrays, DeclareOwnArrays, DeclareSwitch}
+use Rattle.gier_tree.specs.Trees.{DeclareProcedure}
+use Rattle.gier_tree.specs.Trees.{Declarations, NoDeclarations, MoreDeclarations, Group, MkBlock, MkCompound, Statements}
+use Rattle.gier_tree.specs.Trees.{NoStatements}
+use Rattle.gier_tree.specs.Trees.{MoreStatements, Statement, OneUnconditional, OneConditional, OneLoop, Unconditional}
+use Rattle.gier_tree.specs.Trees.{MkUnconditional}
+use Rattle.gier_tree.specs.Trees.{Basic, OneGroup, Assign, Jump, CallStatement, Dummy, Conditional, IfThen, IfElse, IfLoop}
+use Rattle.gier_tree.specs.Trees.{Loop, MkLoop}
 use Rattle.gier_tree.specs.Written.{Collected, opens, shuts}
 use Rattle.gier_written.specs.Renamed.{collected_text}
 use Rattle.gier_text4.specs.State.{lined}
@@ -161,13 +167,15 @@ text_framed os q v _ i k (OwnVariables l t ns r a) =
     let i1 = i + length (own_names d) in
     let v1 = behind_declaration v (without_own d i) in
     ap (λ z. opens MType t.line ∷ word (type_tag t.type) t.line ∷ names_as Declaring (fresh_names ns i) (shuts MType z
-    ∷ word Semicolon (last_name ns) ∷ text_declarations (collected_text os) q v1 (hoisted_declarations r i1) k)) (variables_framed ns i)
+    ∷ word Semicolon (last_name ns)
+    ∷ text_declarations (collected_text os) q v1 (hoisted_declarations r i1) k)) (variables_framed ns i)
     ∙ ap (hoisted_one d i) (text_framed os q v1 r i1 k a)
 text_framed os q v _ i k (OwnArrays y t l s ss r a) =
     let d = DeclareOwnArrays y t l s ss in
     let i1 = i + length (own_names d) in
     let v1 = behind_declaration v (without_own d i) in
-    let k1 : List Symbol = word Semicolon (last_fixed s ss) ∷ text_declarations (collected_text os) q v1 (hoisted_declarations r i1) k in
+    let k1 : List Symbol = word Semicolon (last_fixed s ss)
+    ∷ text_declarations (collected_text os) q v1 (hoisted_declarations r i1) k in
     ap (λ z. word (type_tag t.type) t.line ∷ word Array l ∷ z)
     (segment_framed os q s i (text_segments (collected_text os) q (fresh_segments ss (i + count_fixed s)) k1)
     ∙ ap (hoisted_fixed s i) (segments_framed os q ss (i + count_fixed s) k1
@@ -210,7 +218,8 @@ fixeds_app (s ∷ ss) i k o =
     ap (λ z. word Comma s.comma ∷ z) (fixed_app s.segment i (hoisted_fixeds ss (i + fixed_count s.segment) k) o
     ∙ ap (hoisted_fixed s.segment i) (fixeds_app ss (i + fixed_count s.segment) k o))
 
-pub hoisted_app : (ds : List Declaration) (i : ℕ) (k o : List Symbol) → AreOwn ds → hoisted_text ds i k ++ o ≡ hoisted_text ds i (k ++ o)
+pub hoisted_app : (ds : List Declaration) (i : ℕ) (k o : List Symbol) → AreOwn ds
+    → hoisted_text ds i k ++ o ≡ hoisted_text ds i (k ++ o)
 hoisted_app [] i k o a = refl
 hoisted_app _ i k o (OwnVariables l t ns r a) =
     let d = DeclareOwn l t ns in

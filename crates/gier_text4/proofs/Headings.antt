@@ -17,7 +17,8 @@ use Rattle.gier_tree.specs.Spell.{type_tag, spell_option_type, spell_specifier}
 use Rattle.gier_tree.specs.Texts.{kinds_listed, behind_entry, all_entries, names_as, declares, text_formals, text_values}
 use Rattle.gier_tree.specs.Texts.{text_specifications, text_heading}
 use Rattle.gier_tree.specs.Trees.{Name, NextName, Names, MkNames, ValueType, IntegerType, BooleanType, TypeWord, Formals, NoFormals}
-use Rattle.gier_tree.specs.Trees.{FormalList, ValuePart, NoValues, ValueList, Specifier, ValueSpec, ArraySpec, LabelSpec, SwitchSpec}
+use Rattle.gier_tree.specs.Trees.{FormalList, ValuePart, NoValues, ValueList, Specifier, ValueSpec, ArraySpec, LabelSpec}
+use Rattle.gier_tree.specs.Trees.{SwitchSpec}
 use Rattle.gier_tree.specs.Trees.{StringSpec, ProcedureSpec, FunctionSpec, Specification, Heading, MkHeading}
 use Rattle.gier_tree.specs.Written.{opens}
 use Rattle.gier_text4.specs.Kinds.{Specified, MkSpecified, typed_specification, declared_kind, is_among, by_value, formal_in}
@@ -58,8 +59,10 @@ type_read : (os : List Name) (t : ValueType) (l : ℕ) (k o d : List Symbol) (sc
     → fold_written os k ≡ heads o d sc w f (MkSpecified names kind) specs vs y fr
     → fold_written os (word (type_tag t) l ∷ k)
     ≡ heads (word (type_tag t) l ∷ o) d sc w f (MkSpecified names (typed_specification t kind)) specs vs y fr
-type_read os IntegerType l k o d sc w f names kind specs vs y fr h = ap (λ c. step (as_written os (word (type_tag IntegerType) l)) c) h
-type_read os BooleanType l k o d sc w f names kind specs vs y fr h = ap (λ c. step (as_written os (word (type_tag BooleanType) l)) c) h
+type_read os IntegerType l k o d sc w f names kind specs vs y fr h =
+    ap (λ c. step (as_written os (word (type_tag IntegerType) l)) c) h
+type_read os BooleanType l k o d sc w f names kind specs vs y fr h =
+    ap (λ c. step (as_written os (word (type_tag BooleanType) l)) c) h
 
 specifier_read : (os : List Name) (s : Specifier) (k o d : List Symbol) (sc : List (List Symbol)) (w : List Symbol) (f : List Kind)
     (names : List ℕ) (specs : List Specified) (vs : List ℕ) (y : Option ℕ) (fr : Frame)
@@ -70,7 +73,8 @@ specifier_read os (ValueSpec t) k o d sc w f names specs vs y fr h =
     type_read os t.type t.line k o d sc w f names Undeclared specs vs y fr h
     ∙ ap (λ z. heads (word (type_tag t.type) t.line ∷ o) d sc w f (MkSpecified names z) specs vs y fr) (value_kind_read t.type)
   where
-    value_kind_read : (t : ValueType) → typed_specification t Undeclared ≡ specified_kind (ValueSpec (record { type = t; line = 0 })) false
+    value_kind_read : (t : ValueType)
+        → typed_specification t Undeclared ≡ specified_kind (ValueSpec (record { type = t; line = 0 })) false
     value_kind_read IntegerType = refl
     value_kind_read BooleanType = refl
 specifier_read os (ArraySpec t l) k o d sc w f names specs vs y fr h =
@@ -115,7 +119,8 @@ specification_read : (os : List Name) (s : Specifier) (ns : Names) (l : ℕ) (k 
 specification_read os s (MkNames x ns) l k o d sc w f spec specs fr h =
     let k1 : List Symbol = word Semicolon l ∷ k in
     let o1 : List Symbol = word Semicolon l ∷ o in
-    specifier_read os s (names_as SpecifiedTag (MkNames x ns) k1) (names_as SpecifiedTag (MkNames x ns) o1) d sc w f (numbers x ns [])
+    specifier_read os s (names_as SpecifiedTag (MkNames x ns) k1) (names_as SpecifiedTag (MkNames x
+    ns) o1) d sc w f (numbers x ns [])
     (spec ∷ specs) [] None fr
     (specified_read os ns x k1 o1 d sc w f [] Undeclared (spec ∷ specs) [] None fr (ap (step (word Semicolon l)) h))
 
@@ -125,7 +130,8 @@ specifications_read : (os : List Name) (ss : List Specification) (k o d : List S
     ≡ heads (text_specifications ss o) d sc w f (first_spec ss) (more_specs ss) [] None fr
 specifications_read os [] k o d sc w f fr h = h
 specifications_read os (s ∷ ss) k o d sc w f fr h =
-    specification_read os s.specifier s.names s.semicolon (text_specifications ss k) (text_specifications ss o) d sc w f (first_spec ss)
+    specification_read os s.specifier s.names s.semicolon (text_specifications ss k) (text_specifications ss o) d sc w f
+    (first_spec ss)
     (more_specs ss) fr (specifications_read os ss k o d sc w f fr h)
 
 -- the value list
@@ -204,7 +210,8 @@ kind_found : (ss : List Specification) (vs : ValuePart) (x : ℕ)
     → formal_in (first_spec ss ∷ more_specs ss) (values_of vs) x ≡ formal_kind ss vs x
 kind_found [] vs x = refl
 kind_found (s ∷ ss) vs x =
-    ap (λ c. if c then (if is_among x (values_of vs) then by_value (specified_kind s.specifier false) else specified_kind s.specifier false)
+    ap (λ c. if c then (if is_among x (values_of vs) then by_value (specified_kind s.specifier false) else specified_kind
+    s.specifier false)
     else formal_in (first_spec ss ∷ more_specs ss) (values_of vs) x) (among_names x s.names)
     ∙ ap (λ z. if is_named x s.names then z else formal_in (first_spec ss ∷ more_specs ss) (values_of vs) x)
     (ap (λ b. if b then by_value (specified_kind s.specifier false) else specified_kind s.specifier false) (among_values x vs)
@@ -233,7 +240,8 @@ names_read : (os : List Name) (ns : List NextName) (x : Name) (k o d e : List Sy
     (kinds_of (formal_in (spec ∷ specs) vs) x ns) spec specs vs y fr
 names_read os [] x k o d e es w spec specs vs y fr h = ap (step (sym Formal x.number x.line)) h
 names_read os (n ∷ ns) x k o d e es w spec specs vs y fr h =
-    ap (λ c. step (sym Formal x.number x.line) (step (word Comma n.comma) c)) (names_read os ns n.name k o d e es w spec specs vs y fr h)
+    ap (λ c. step (sym Formal x.number x.line) (step (word Comma n.comma)
+    c)) (names_read os ns n.name k o d e es w spec specs vs y fr h)
 
 abbrev formals_noted : (ℕ → Kind) → Formals → List Symbol → List Symbol
 formals_noted look NoFormals e = e
@@ -247,13 +255,15 @@ formals_read : (os : List Name) (fs : Formals) (k o d e : List Symbol) (es : Lis
     (spec : Specified) (specs : List Specified) (vs : List ℕ) (y : Option ℕ) (fr : Frame)
     → fold_written os k ≡ heads o d (e ∷ es) w [] spec specs vs y fr
     → fold_written os (text_formals fs k)
-    ≡ heads (text_formals fs o) d (formals_noted (formal_in (spec ∷ specs) vs) fs e ∷ es) w (formals_kinds (formal_in (spec ∷ specs) vs) fs)
+    ≡ heads (text_formals fs o) d (formals_noted (formal_in (spec ∷ specs) vs) fs e
+    ∷ es) w (formals_kinds (formal_in (spec ∷ specs) vs) fs)
     spec specs vs y fr
 formals_read os NoFormals k o d e es w spec specs vs y fr h = h
 formals_read os (FormalList l (MkNames x ns) m) k o d e es w spec specs vs y fr h =
     let k1 : List Symbol = word RightParenthesis m ∷ k in
     let o1 : List Symbol = word RightParenthesis m ∷ o in
-    ap (step (word LeftParenthesis l)) (names_read os ns x k1 o1 d e es w spec specs vs y fr (ap (step (word RightParenthesis m)) h))
+    ap (step (word LeftParenthesis l)) (names_read os ns x k1 o1 d e es w spec specs vs y fr (ap
+    (step (word RightParenthesis m)) h))
 
 -- no kind of a formal has a count behind it
 abbrev IsPlain : Kind → Type 0
@@ -331,8 +341,10 @@ head_ends (Some t) l0 l os k o d b e es w f specs vs x fr h =
     ap (step (opens MProcedure l0)) (type_read os t.type t.line k1 o1 d (b ∷ e ∷ es) w f [] ProcedureFormal specs vs (Some x) fr
     (ap (step (word ProcedureWord l)) h))
 
-procedure_typed : (t : ValueType) (x : ℕ) (a : ℕ) (f : List Kind) (y : Name) (e : List Symbol) → entry_of y.number (declared_kind (typed_specification t ProcedureFormal)) (kinds_listed f 0 e)
-    ≡ all_entries (entry (record { kind = procedure_kind (Some (record { type = t; line = x })); count = a; formals = f }) y ∷ []) 0 e
+procedure_typed : (t : ValueType) (x : ℕ) (a : ℕ) (f : List Kind) (y : Name) (e : List Symbol)
+    → entry_of y.number (declared_kind (typed_specification t ProcedureFormal)) (kinds_listed f 0 e)
+    ≡ all_entries (entry (record { kind = procedure_kind (Some (record { type = t; line = x })); count = a; formals = f }) y
+    ∷ []) 0 e
 procedure_typed IntegerType x a f y e = refl
 procedure_typed BooleanType x a f y e = refl
 
@@ -380,8 +392,10 @@ heading_read os (MkHeading t l x fs m vs ss) l0 lb k o d b e es w fr h =
     ∙ ap (λ z. calm (opens MProcedure l0 ∷ lined l0 z (text_heading hd o1)) d
     (entry_of x.number (declared_kind (head_kind t)) (kinds_listed (formals_kinds (formal_kind ss vs) fs) 0 e) ∷ es) w fr)
     (formals_entries (formal_kind ss vs) (plain_formal ss vs) fs b)
-    ∙ ap (λ z. calm (opens MProcedure l0 ∷ lined l0 (all_entries (map (λ y. entry (plain (kind_in hd y.number)) y) (formals_of hd)) 0 b)
+    ∙ ap (λ z. calm (opens MProcedure l0
+    ∷ lined l0 (all_entries (map (λ y. entry (plain (kind_in hd y.number)) y) (formals_of hd)) 0 b)
     (text_heading hd o1)) d (entry_of x.number (declared_kind (head_kind t)) (kinds_listed z 0 e) ∷ es) w fr)
     (all_kinds (formal_kind ss vs) fs)
-    ∙ ap (λ z. calm (opens MProcedure l0 ∷ lined l0 (all_entries (map (λ y. entry (plain (kind_in hd y.number)) y) (formals_of hd)) 0 b)
+    ∙ ap (λ z. calm (opens MProcedure l0
+    ∷ lined l0 (all_entries (map (λ y. entry (plain (kind_in hd y.number)) y) (formals_of hd)) 0 b)
     (text_heading hd o1)) d (z ∷ es) w fr) (procedure_noted t (length (formals_of hd)) (formal_kinds hd) x e)

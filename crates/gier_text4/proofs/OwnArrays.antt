@@ -107,7 +107,8 @@ abbrev pub further_owns : OwnBefore → (shut : Symbol) → (List Symbol → Lis
 further_owns NoOwnYet s g d = d
 further_owns (SomeOwn n h i) s g d = g (s ∷ d)
 
-put_own : (b : OwnBefore) (s : Symbol) (g : List Symbol → List Symbol) (o d : List Symbol) (sc : List (List Symbol)) (w : List Symbol)
+put_own : (b : OwnBefore) (s : Symbol) (g : List Symbol
+    → List Symbol) (o d : List Symbol) (sc : List (List Symbol)) (w : List Symbol)
     (at : Place) (fr : Frame)
     → put g (MkState o (begun_owns b s d) sc w [] (begun_own b s) at fr)
     ≡ MkState o (further_owns b s g d) sc w [] (further_own b s g) at fr
@@ -148,14 +149,17 @@ own_segment_read os (MkFixed (MkNames x ns) l q qs m) n b k o d e es w fr f h =
     let hd = held_own x ns n (own_held b) in
     let fd = held_fresh (SegmentSpot (fixed_bounds qs)) ns n (fresh_held b) in
     ap (step (opens MSegment x.line)) h3
-    ∙ ap (λ y. MkState o (opens MSegment x.line ∷ names_as Declaring (fresh_names (MkNames x ns) n) y) (e ∷ es) w [] (IsOwn (fresh n) 0)
+    ∙ ap (λ y. MkState o (opens MSegment x.line ∷ names_as Declaring (fresh_names (MkNames x ns) n) y) (e
+    ∷ es) w [] (IsOwn (fresh n) 0)
     (BetweenSegments hd fd) fr) (further_closed b s g (last_name (MkNames x ns)) d)
 
-comma_between : (b : OwnBefore) (s : FixedSegment) (n l : ℕ) (o d : List Symbol) (sc : List (List Symbol)) (w : List Symbol) (fr : Frame)
+comma_between : (b : OwnBefore) (s : FixedSegment) (n l : ℕ) (o d : List Symbol) (sc : List (List
+    Symbol)) (w : List Symbol) (fr : Frame)
     → step (word Comma l) (own_state (own_after s n b) o d sc w fr) ≡ own_state (own_after s n b) o (word Comma l ∷ d) sc w fr
 comma_between b (MkFixed (MkNames x ns) l q qs m) n c o d sc w fr = refl
 
-own_segments_read : (os : List Name) (ss : List NextFixed) (n : ℕ) (k o d e : List Symbol) (es : List (List Symbol)) (w : List Symbol)
+own_segments_read : (os : List Name) (ss : List NextFixed) (n : ℕ) (k o d e : List Symbol) (es : List (List
+    Symbol)) (w : List Symbol)
     (fr : Frame) → fr ≡ FrameBegin → fold_written os k ≡ calm o d (e ∷ es) w fr
     → fold_written os (text_fixeds ss n k) ≡ own_state (own_before ss n) o (owns_written ss n d) (e ∷ es) w fr
 own_segments_read os [] n k o d e es w fr f h = h
@@ -171,7 +175,8 @@ own_segments_read os (s ∷ ss) n k o d e es w fr f h =
 all_closed : (s : FixedSegment) (ss : List NextFixed) (n : ℕ) (d : List Symbol)
     → closed (own_before ss n) (fixed_last s) (owns_written ss n d) ≡ hoisted_fixeds ss n (word Semicolon (last_fixed s ss) ∷ d)
 all_closed (MkFixed ns l q qs m) [] n d = refl
-all_closed (MkFixed ns l q qs m) (s ∷ ss) n d = some_closed s.segment n (own_before ss (n + fixed_count s.segment)) (fixed_last (MkFixed ns l q qs m)) _
+all_closed (MkFixed ns l q qs m) (s ∷ ss) n d =
+    some_closed s.segment n (own_before ss (n + fixed_count s.segment)) (fixed_last (MkFixed ns l q qs m)) _
     ∙ ap (λ z. word Comma s.comma ∷ hoisted_fixed s.segment n z) (all_closed s.segment ss (n + fixed_count s.segment) d)
   where
     some_closed : (s : FixedSegment) (n : ℕ) (b : OwnBefore) (line : ℕ) (r : List Symbol) → closed (own_after s n b) line r ≡ r
@@ -179,14 +184,16 @@ all_closed (MkFixed ns l q qs m) (s ∷ ss) n d = some_closed s.segment n (own_b
 
 own_array_ends : (os : List Name) (t : ValueType) (s : FixedSegment) (n : ℕ) (b : OwnBefore) (i j l : ℕ) (o d e : List Symbol)
     (es : List (List Symbol)) (w : List Symbol) (fr : Frame)
-    → step (word Own j) (step (as_written os (word (type_tag t) i)) (step (word Array l) (own_state (own_after s n b) o d (e ∷ es) w fr)))
+    → step (word Own j) (step (as_written os (word (type_tag t) i)) (step (word Array l)
+    (own_state (own_after s n b) o d (e ∷ es) w fr)))
     ≡ calm o (word (type_tag t) i ∷ word Array l ∷ d) (typed (kind_number (array_kind t)) (own_held (own_after s n b)) e ∷ es)
     (typed (kind_number (array_kind t)) (fresh_held (own_after s n b)) w) fr
 own_array_ends os IntegerType (MkFixed (MkNames x ns) a q qs m) n b i j l o d e es w fr = refl
 own_array_ends os BooleanType (MkFixed (MkNames x ns) a q qs m) n b i j l o d e es w fr = refl
 
 -- the entries
-own_app : (a b : List Name) (i l : ℕ) (r : List Symbol) → own_entries (a ++ b) i l r ≡ own_entries a i l (own_entries b (i + length a) l r)
+own_app : (a b : List Name) (i l : ℕ) (r : List Symbol)
+    → own_entries (a ++ b) i l r ≡ own_entries a i l (own_entries b (i + length a) l r)
 own_app [] b i l r =
     let e : i ≡ i + 0 = omega arith in
     ap (λ z. own_entries b z l r) e
@@ -208,7 +215,8 @@ fixeds_held kind (s ∷ ss) n r =
     let n1 = n + fixed_count s.segment in
     fixed_held kind s.segment n (own_before ss n1) r
     ∙ ap (own_entries (names_of_fixed s.segment) n 0) (fixeds_held kind ss n1 r)
-    ∙ ap (λ z. own_entries (names_of_fixed s.segment) n 0 (own_entries (names_of_fixeds ss) (n + z) 0 r)) (back (length_fixed s.segment))
+    ∙ ap (λ z. own_entries (names_of_fixed s.segment) n 0 (own_entries (names_of_fixeds ss) (n + z) 0 r)) (back (length_fixed
+    s.segment))
     ∙ back (own_app (names_of_fixed s.segment) (names_of_fixeds ss) n 0 r)
 
 fresh_fixed : (t : ValueType) (s : FixedSegment) (n : ℕ) (b : OwnBefore) (r : List Symbol)
@@ -230,9 +238,11 @@ fresh_fixeds t (s ∷ ss) n r =
     let n1 = n + fixed_count s.segment in
     fresh_fixed t s.segment n (own_before ss n1) r
     ∙ ap (all_entries (segment_entries t (fresh_segment s.segment n)) 0) (fresh_fixeds t ss n1 r)
-    ∙ ap (λ z. all_entries (segment_entries t (fresh_segment s.segment n)) 0 (all_entries (segments_entries t (fresh_segments ss (n + z))) 0 r))
+    ∙ ap (λ z. all_entries (segment_entries t (fresh_segment s.segment n)) 0 (all_entries
+    (segments_entries t (fresh_segments ss (n + z))) 0 r))
     (same_count s.segment)
-    ∙ back (all_app (segment_entries t (fresh_segment s.segment n)) (segments_entries t (fresh_segments ss (n + count_fixed s.segment))) 0 r)
+    ∙ back (all_app (segment_entries t (fresh_segment s.segment n)) (segments_entries t
+    (fresh_segments ss (n + count_fixed s.segment))) 0 r)
 
 pub own_arrays_declared : (os : List Name) (j : ℕ) (t : ValueType) (i l : ℕ) (s : FixedSegment) (ss : List NextFixed) (n : ℕ)
     (k o d e : List Symbol) (es : List (List Symbol)) (w : List Symbol) (fr : Frame) → fr ≡ FrameBegin
@@ -257,7 +267,8 @@ own_arrays_declared os j t i l s ss n k o d e es w fr f h =
     ≡ all_entries (segment_entries t (fresh_segment s n) ++ segments_entries t (fresh_segments ss (n + count_fixed s))) 0 w =
     fresh_fixed t s n b w
     ∙ ap (all_entries (segment_entries t (fresh_segment s n)) 0) (fresh_fixeds t ss n1 w)
-    ∙ ap (λ z. all_entries (segment_entries t (fresh_segment s n)) 0 (all_entries (segments_entries t (fresh_segments ss (n + z))) 0 w))
+    ∙ ap (λ z. all_entries (segment_entries t (fresh_segment s n)) 0 (all_entries
+    (segments_entries t (fresh_segments ss (n + z))) 0 w))
     (same_count s)
     ∙ back (all_app (segment_entries t (fresh_segment s n)) (segments_entries t (fresh_segments ss (n + count_fixed s))) 0 w) in
     ap (λ y. step (word Own j) (step (as_written os (word (type_tag t) i)) (step (word Array l) y))) h2

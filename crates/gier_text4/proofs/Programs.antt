@@ -34,7 +34,8 @@ use Rattle.gier_text4.proofs.SmallNumbers.{program_small}
 use Rattle.gier_text4.proofs.Scopes.{lined_entries}
 use Rattle.gier_text4.proofs.Standing.{hoisted_text, hoisted_entries, IsFramed, labelled}
 use Rattle.gier_text4.proofs.Statements.{group_stands}
-use Rattle.gier_text4.proofs.Frames.{AreOwn, NoOwns, OwnVariables, OwnArrays, group_owns, none_in_frame, entries_framed, text_framed}
+use Rattle.gier_text4.proofs.Frames.{AreOwn, NoOwns, OwnVariables, OwnArrays, group_owns, none_in_frame, entries_framed}
+use Rattle.gier_text4.proofs.Frames.{text_framed}
 use Rattle.gier_text4.proofs.Frames.{hoisted_app}
 
 -- the first line of a program
@@ -62,7 +63,8 @@ unframed os ls g l e =
     let t = MkProgram ls g l in
     let u : Where = record { level = 1; numbers = entries_numbers (program_entries t); owns = 0 } in
     let k : List Symbol = shuts MProgram (group_end g) ∷ sym TextEnd 0 l ∷ [] in
-    let h = body_stands os NoFrame (program_places t) (program_places t) u u ls g k k refl refl (subst (IsFramed NoFrame) (back e) tt) refl in
+    let h = body_stands os NoFrame (program_places t) (program_places t) u u ls g k k refl refl (subst (IsFramed NoFrame) (back
+    e) tt) refl in
     let o = text_labels ls (text_group (collected_text os) (program_places t) u g k) in
     ap (λ c. written (step (opens MProgram (first_program t)) c)) h
     ∙ ap (λ z. opens MProgram (first_program t) ∷ z) (lined_entries (label_entries (labels_of_program t)) (first_program t) [] o)
@@ -81,7 +83,8 @@ frame_text os q v ds l ls o = opens MProgram l ∷ opens MBlock l ∷ entries_of
 
 frame_written : (os : List Name) (q : Places) (v : Where) (ds : List Declaration) (l : ℕ) (ls : List LabelPlace) (o : List Symbol)
     → AreOwn ds
-    → written (step (opens MProgram l) (calm o (hoisted_text ds 0 []) (all_entries (label_entries ls) 0 [] ∷ []) (hoisted_entries ds 0 [])
+    → written (step (opens MProgram l) (calm o (hoisted_text ds 0 []) (all_entries (label_entries ls) 0 [] ∷ [])
+    (hoisted_entries ds 0 [])
     FrameBegin)) ≡ frame_text os q v ds l ls o
 frame_written os q v ds l ls o a =
     ap (λ z. opens MProgram l ∷ opens MBlock l ∷ lined l (hoisted_entries ds 0 []) (lined l (all_entries (label_entries ls) 0 [])
@@ -158,7 +161,8 @@ same_use : (os : List Name) (s : Symbol) → is_small_name s ≡ true → as_wri
 same_use os s small = by (is_use s.tag) refl small
   where
     by : (b : Bool) → is_use s.tag ≡ b
-        → (if b then nat_lt s.value first_fresh else (if s.tag == number_of Declaring then nat_lt s.value first_fresh else true)) ≡ true
+        → (if b then nat_lt s.value first_fresh else (if s.tag == number_of Declaring then nat_lt s.value first_fresh else
+        true)) ≡ true
         → (if b then sym Identifier (number_written os s.value) s.line else s) ≡ s
     by true e small =
         ap (λ b. sym Identifier (if b then s.value else own_name os (s.value - first_fresh)) s.line) small

@@ -30,7 +30,8 @@ hoisted_text (x ∷ xs) i r = hoisted_one x i (hoisted_text xs (i + length (own_
 
 abbrev pub hoisted_entries : List Declaration → (i : ℕ) → List Symbol → List Symbol
 hoisted_entries [] i r = r
-hoisted_entries (x ∷ xs) i r = all_entries (declaration_entries (without_own x i)) 0 (hoisted_entries xs (i + length (own_names x)) r)
+hoisted_entries (x ∷ xs) i r = all_entries (declaration_entries (without_own x i)) 0 (hoisted_entries xs (i + length
+    (own_names x)) r)
 
 abbrev pub Stands : (os : List Name) → Frame → (d w read written : List Symbol) → (owns : List Declaration) → (i : ℕ)
     → (e : List Symbol) → (es : List (List Symbol)) → Type 0
@@ -49,14 +50,16 @@ framed_rest : (fr : Frame) (a r : List Declaration) → IsFramed fr (a ++ r) →
 framed_rest fr [] r f = f
 framed_rest fr (x ∷ xs) r f = framed_by fr r f
 
-pub behind_declaration_framed : (fr : Frame) (x : Declaration) (r : List Declaration) → IsFramed fr (owns_of_declaration x r) → IsFramed fr r
+pub behind_declaration_framed : (fr : Frame) (x : Declaration) (r : List Declaration) → IsFramed fr (owns_of_declaration x r)
+    → IsFramed fr r
 behind_declaration_framed fr x r f = framed_rest fr (owns_of_declaration x []) r (subst (IsFramed fr) (app_declaration x [] r) f)
 
 pub behind_declarations_framed : (fr : Frame) (x : Declarations) (r : List Declaration) → IsFramed fr (owns_of_declarations x r)
     → IsFramed fr r
 behind_declarations_framed fr x r f = framed_rest fr (owns_of_declarations x []) r (subst (IsFramed fr) (app_declarations x [] r) f)
 
-pub behind_statement_framed : (fr : Frame) (x : Statement) (r : List Declaration) → IsFramed fr (owns_of_statement x r) → IsFramed fr r
+pub behind_statement_framed : (fr : Frame) (x : Statement) (r : List Declaration) → IsFramed fr (owns_of_statement x r)
+    → IsFramed fr r
 behind_statement_framed fr x r f = framed_rest fr (owns_of_statement x []) r (subst (IsFramed fr) (app_statement x [] r) f)
 
 -- counts of own quantities

@@ -13,7 +13,8 @@ use Rattle.gier_tree.specs.Declaring.{list_of, own_names, formals_of, labels_of_
 use Rattle.gier_tree.specs.Declaring.{labels_of_unconditional, labels_of_basic, labels_of_conditional, labels_of_loop}
 use Rattle.gier_tree.specs.Described.{plain, kind_in}
 use Rattle.gier_tree.specs.Entries.{entry, label_entries, block_entries, procedure_entries}
-use Rattle.gier_tree.specs.Lines.{first_statement, last_statement, last_exprs, last_expr, first_heading, last_heading, first_conditional}
+use Rattle.gier_tree.specs.Lines.{first_statement, last_statement, last_exprs, last_expr, first_heading, last_heading}
+use Rattle.gier_tree.specs.Lines.{first_conditional}
 use Rattle.gier_tree.specs.Lines.{last_conditional, first_loop, last_loop}
 use Rattle.gier_tree.specs.OwnCount.{count_owns, owns_of_declaration, owns_of_declarations, owns_of_group, owns_of_statements}
 use Rattle.gier_tree.specs.OwnCount.{owns_of_statement, owns_of_unconditional, owns_of_basic, owns_of_conditional, owns_of_loop}
@@ -24,7 +25,8 @@ use Rattle.gier_tree.specs.Texts.{all_entries, entries_of, entries_of_all, decla
 use Rattle.gier_tree.specs.Texts.{text_declarations, text_group, text_statements, text_statement, text_unconditional, text_basic}
 use Rattle.gier_tree.specs.Texts.{text_conditional, text_loop, text_own, text_own_arrays, text_turns, text_next_turns}
 use Rattle.gier_tree.specs.Texts.{text_switch_element, text_switch_elements}
-use Rattle.gier_tree.specs.Trees.{Name, Expr, Heading, LabelPlace, Declaration, DeclareType, DeclareOwn, DeclareArrays, DeclareOwnArrays}
+use Rattle.gier_tree.specs.Trees.{Name, Expr, Heading, LabelPlace, Declaration, DeclareType, DeclareOwn, DeclareArrays}
+use Rattle.gier_tree.specs.Trees.{DeclareOwnArrays}
 use Rattle.gier_tree.specs.Trees.{DeclareSwitch, DeclareProcedure, Declarations, NoDeclarations, MoreDeclarations, Group, MkBlock}
 use Rattle.gier_tree.specs.Trees.{MkCompound, Statements, NoStatements, MoreStatements, Statement, OneUnconditional, OneConditional}
 use Rattle.gier_tree.specs.Trees.{OneLoop, Unconditional, MkUnconditional, Basic, OneGroup, Assign, Jump, CallStatement, Dummy}
@@ -49,7 +51,8 @@ use Rattle.gier_text4.proofs.Standing.{count_declarations, moved, same_at, copie
 
 -- a condition, up to `_then`
 condition_copied : (os : List Name) (p q : Places) (l m : ℕ) (e : Expr) → Copies os
-    (λ k. word If l ∷ text_expr (marked_text os) p e (word Then m ∷ k)) (λ k. word If l ∷ text_expr (collected_text os) q e (word Then m ∷ k))
+    (λ k. word If l ∷ text_expr (marked_text os) p e (word Then m ∷ k)) (λ k. word If l
+    ∷ text_expr (collected_text os) q e (word Then m ∷ k))
 condition_copied os p q l m e = both (one os (word If l) refl refl) (both (copied_expr os p q e) (one os (word Then m) refl refl))
 
 -- entries of a procedure's scope
@@ -64,13 +67,17 @@ procedure_lined h s l k =
     ∙ back (all_app formals labels l k)
 
 mutual
-  pub declaration_stands : (os : List Name) (fr : Frame) (d w : List Symbol) (p q : Places) (u v : Where) (i j : ℕ) (next : ℕ) (x : Declaration)
-      (r : List Declaration) (k o e : List Symbol) (es : List (List Symbol)) → u.owns ≡ i → v.owns ≡ i → j ≡ i + owns_in_declaration x
+  pub declaration_stands : (os : List Name) (fr : Frame) (d w : List Symbol) (p q : Places) (u v : Where) (i j : ℕ) (next : ℕ)
+      (x : Declaration)
+      (r : List Declaration) (k o e : List Symbol) (es : List (List Symbol)) → u.owns ≡ i → v.owns ≡ i
+      → j ≡ i + owns_in_declaration x
       → IsFramed fr (owns_of_declaration x r) → Stands os fr d w k o r j e es
-      → Stands os fr d w (text_declaration (marked_text os) p u next x k) (text_declaration (collected_text os) q v next x o) (owns_of_declaration x r) i
+      → Stands os fr d w (text_declaration (marked_text os) p u next x k) (text_declaration (collected_text
+      os) q v next x o) (owns_of_declaration x r) i
       (entries_of Collected x i 0 e) es
   declaration_stands os fr d w p q u v i j next (DeclareType t ns) r k o e es au av n f h =
-      variables_declared os t.type t.line ns k o (hoisted_text r i d) e es (hoisted_entries r i w) fr (same_at os fr d w k o r i j e es n h)
+      variables_declared os t.type t.line ns k o (hoisted_text r i d) e es (hoisted_entries r i w) fr (same_at os fr d w k o r i
+      j e es n h)
   declaration_stands os fr d w p q u v i j next (DeclareOwn l t ns) r k o e es au av n f h =
       let i1 = i + length (list_of ns) in
       let n1 : j ≡ i1 = omega (arith, n) in
@@ -78,7 +85,8 @@ mutual
       ∙ own_variables_declared os l t.type t.line ns i k o (hoisted_text r i1 d) e es (hoisted_entries r i1 w) fr f
       (moved os fr d w k o r i1 j e es n1 h)
   declaration_stands os fr d w p q u v i j next (DeclareArrays t l s ss) r k o e es au av n f h =
-      arrays_declared os p q t.type t.line l s ss k o (hoisted_text r i d) e es (hoisted_entries r i w) fr (same_at os fr d w k o r i j e es n h)
+      arrays_declared os p q t.type t.line l s ss k o (hoisted_text r i d) e es (hoisted_entries r i w) fr (same_at os fr d w k
+      o r i j e es n h)
   declaration_stands os fr d w p q u v i j next (DeclareOwnArrays y t l s ss) r k o e es au av n f h =
       let i1 = i + length (own_names (DeclareOwnArrays y t l s ss)) in
       let n1 : j ≡ i1 = omega (arith, n) in
@@ -89,12 +97,16 @@ mutual
       let s = shuts MSwitch (last_exprs (last_expr y) ys) in
       let d1 = hoisted_text r i d in
       let w1 = hoisted_entries r i w in
-      let g : List Symbol → List Symbol = λ z. text_switch_element (marked_text os) p y (text_switch_elements (marked_text os) p ys z) in
-      let g' : List Symbol → List Symbol = λ z. text_switch_element (collected_text os) q y (text_switch_elements (collected_text os) q ys z) in
+      let g : List Symbol → List Symbol =
+      λ z. text_switch_element (marked_text os) p y (text_switch_elements (marked_text os) p ys z) in
+      let g' : List Symbol → List Symbol =
+      λ z. text_switch_element (collected_text os) q y (text_switch_elements (collected_text os) q ys z) in
       let c = copied_switch os p q m y ys in
       let k1 : List Symbol = s ∷ k in
-      let h1 : fold_written os k1 ≡ MkState (s ∷ o) d1 (e ∷ es) w1 [] NotOwn InSwitch fr = ap (step s) (same_at os fr d w k o r i j e es n h) in
-      let h2 : fold_written os (word Becomes m ∷ g k1) ≡ MkState (word Becomes m ∷ g' (s ∷ o)) d1 (e ∷ es) w1 [] NotOwn InSwitch fr =
+      let h1 : fold_written os k1 ≡ MkState (s ∷ o) d1 (e ∷ es) w1 [] NotOwn InSwitch fr =
+      ap (step s) (same_at os fr d w k o r i j e es n h) in
+      let h2 : fold_written os (word Becomes m ∷ g k1)
+      ≡ MkState (word Becomes m ∷ g' (s ∷ o)) d1 (e ∷ es) w1 [] NotOwn InSwitch fr =
       copies os (λ z. word Becomes m ∷ g z) (λ z. word Becomes m ∷ g' z) c k1 ∙ ap (put (λ z. word Becomes m ∷ g' z)) h1 in
       ap (λ z. step (opens MSwitch l) (step (word Switch l) (step (declares x) z))) h2
   declaration_stands os fr d w p q u v i j next (DeclareProcedure hd s) r k o e es au av n f h =
@@ -119,10 +131,13 @@ mutual
       ∙ ap (λ z. calm (opens MProcedure l0 ∷ z) d1 (entries_of Collected (DeclareProcedure hd s) i 0 e ∷ es) w1 fr)
       (procedure_lined hd s l0 (text_heading hd (opens MBody lb ∷ o1)))
 
-  pub declarations_stand : (os : List Name) (fr : Frame) (d w : List Symbol) (p q : Places) (u v : Where) (i j : ℕ) (x : Declarations)
-      (r : List Declaration) (k o e : List Symbol) (es : List (List Symbol)) → u.owns ≡ i → v.owns ≡ i → j ≡ i + owns_in_declarations x
+  pub declarations_stand : (os : List Name) (fr : Frame) (d w : List Symbol) (p q : Places) (u v : Where) (i j : ℕ) (x :
+      Declarations)
+      (r : List Declaration) (k o e : List Symbol) (es : List (List Symbol)) → u.owns ≡ i → v.owns ≡ i
+      → j ≡ i + owns_in_declarations x
       → IsFramed fr (owns_of_declarations x r) → Stands os fr d w k o r j e es
-      → Stands os fr d w (text_declarations (marked_text os) p u x k) (text_declarations (collected_text os) q v x o) (owns_of_declarations x r) i
+      → Stands os fr d w (text_declarations (marked_text os) p u x k) (text_declarations (collected_text
+      os) q v x o) (owns_of_declarations x r) i
       (entries_of_all Collected x i 0 e) es
   declarations_stand os fr d w p q u v i j NoDeclarations r k o e es au av n f h = same_at os fr d w k o r i j e es n h
   declarations_stand os fr d w p q u v i j (MoreDeclarations x m ds) r k o e es au av n f h =
@@ -134,34 +149,45 @@ mutual
       let o1 : List Symbol = word Semicolon m ∷ text_declarations (collected_text os) q v1 ds o in
       let h1 = declarations_stand os fr d w p q u1 v1 i1 j ds r k o e es (ap (λ z. z + owns_in_declaration x) au)
       (ap (λ z. z + owns_in_declaration x) av) n1 (behind_declaration_framed fr x (owns_of_declarations ds r) f) h in
-      declaration_stands os fr d w p q u v i i1 m x (owns_of_declarations ds r) k1 o1 (entries_of_all Collected ds i1 0 e) es au av refl f
+      declaration_stands os fr d w p q u v i i1 m x (owns_of_declarations ds r) k1 o1 (entries_of_all Collected ds i1 0 e) es au
+      av refl f
       (ap (step (word Semicolon m)) h1)
 
-  pub statement_stands : (os : List Name) (fr : Frame) (d w : List Symbol) (p q : Places) (u v : Where) (i j : ℕ) (next : ℕ) (x : Statement) (a : List LabelPlace)
+  pub statement_stands : (os : List Name) (fr : Frame) (d w : List Symbol) (p q : Places) (u v : Where) (i j : ℕ) (next : ℕ) (x
+      : Statement) (a : List LabelPlace)
       (r : List Declaration) (k o e : List Symbol) (es : List (List Symbol)) → u.owns ≡ i → v.owns ≡ i → j ≡ i + owns_in_statement x
       → IsFramed fr (owns_of_statement x r) → Stands os fr d w k o r j (all_entries (label_entries a) 0 e) es
-      → Stands os fr d w (text_statement (marked_text os) p u next x k) (text_statement (collected_text os) q v next x o) (owns_of_statement x r) i
+      → Stands os fr d w (text_statement (marked_text os) p u next x k) (text_statement (collected_text
+      os) q v next x o) (owns_of_statement x r) i
       (all_entries (label_entries (labels_of_statement x a)) 0 e) es
   statement_stands os fr d w p q u v i j next (OneUnconditional x) a r k o e es au av n f h =
       unconditional_stands os fr d w p q u v i j next x a r k o e es au av n f h
-  statement_stands os fr d w p q u v i j next (OneConditional x) a r k o e es au av n f h = conditional_stands os fr d w p q u v i j next x a r k o e es au av n f h
-  statement_stands os fr d w p q u v i j next (OneLoop x) a r k o e es au av n f h = loop_stands os fr d w p q u v i j next x a r k o e es au av n f h
+  statement_stands os fr d w p q u v i j next (OneConditional x) a r k o e es au av n f h =
+      conditional_stands os fr d w p q u v i j next x a r k o e es au av n f h
+  statement_stands os fr d w p q u v i j next (OneLoop x) a r k o e es au av n f h =
+      loop_stands os fr d w p q u v i j next x a r k o e es au av n f h
 
-  pub unconditional_stands : (os : List Name) (fr : Frame) (d w : List Symbol) (p q : Places) (u v : Where) (i j : ℕ) (next : ℕ) (x : Unconditional) (a : List LabelPlace)
-      (r : List Declaration) (k o e : List Symbol) (es : List (List Symbol)) → u.owns ≡ i → v.owns ≡ i → j ≡ i + owns_in_unconditional x
+  pub unconditional_stands : (os : List Name) (fr : Frame) (d w : List Symbol) (p q : Places) (u v : Where) (i j : ℕ) (next : ℕ)
+      (x : Unconditional) (a : List LabelPlace)
+      (r : List Declaration) (k o e : List Symbol) (es : List (List Symbol)) → u.owns ≡ i → v.owns ≡ i
+      → j ≡ i + owns_in_unconditional x
       → IsFramed fr (owns_of_unconditional x r) → Stands os fr d w k o r j (all_entries (label_entries a) 0 e) es
-      → Stands os fr d w (text_unconditional (marked_text os) p u next x k) (text_unconditional (collected_text os) q v next x o) (owns_of_unconditional x r) i
+      → Stands os fr d w (text_unconditional (marked_text os) p u next x k) (text_unconditional (collected_text
+      os) q v next x o) (owns_of_unconditional x r) i
       (all_entries (label_entries (labels_of_unconditional x a)) 0 e) es
   unconditional_stands os fr d w p q u v i j next (MkUnconditional ls b) a r k o e es au av n f h =
       labelled os fr d w (text_basic (marked_text os) p u b k) (text_basic (collected_text os) q v b o) (owns_of_basic b r) i ls
       (labels_of_basic b a) e es (basic_stands os fr d w p q u v i j b a r k o e es au av n f h)
 
-  pub basic_stands : (os : List Name) (fr : Frame) (d w : List Symbol) (p q : Places) (u v : Where) (i j : ℕ) (x : Basic) (a : List LabelPlace)
-      (r : List Declaration) (k o e : List Symbol) (es : List (List Symbol)) → u.owns ≡ i → v.owns ≡ i → j ≡ i + count_owns (owns_of_basic x [])
+  pub basic_stands : (os : List Name) (fr : Frame) (d w : List Symbol) (p q : Places) (u v : Where) (i j : ℕ) (x : Basic) (a :
+      List LabelPlace)
+      (r : List Declaration) (k o e : List Symbol) (es : List (List Symbol)) → u.owns ≡ i → v.owns ≡ i
+      → j ≡ i + count_owns (owns_of_basic x [])
       → IsFramed fr (owns_of_basic x r) → Stands os fr d w k o r j (all_entries (label_entries a) 0 e) es
       → Stands os fr d w (text_basic (marked_text os) p u x k) (text_basic (collected_text os) q v x o) (owns_of_basic x r) i
       (all_entries (label_entries (labels_of_basic x a)) 0 e) es
-  basic_stands os fr d w p q u v i j (OneGroup x) a r k o e es au av n f h = group_stands os fr d w p q u v i j x a r k o e es au av n f h
+  basic_stands os fr d w p q u v i j (OneGroup x) a r k o e es au av n f h =
+      group_stands os fr d w p q u v i j x a r k o e es au av n f h
   basic_stands os fr d w p q u v i j (Assign x xs b) a r k o e es au av n f h =
       let e1 = all_entries (label_entries a) 0 e in
       copied_at os (text_basic (marked_text os) p u (Assign x xs b)) (text_basic (collected_text os) q v (Assign x xs b))
@@ -174,14 +200,19 @@ mutual
       let e1 = all_entries (label_entries a) 0 e in
       copied_at os (text_basic (marked_text os) p u (CallStatement x)) (text_basic (collected_text os) q v (CallStatement x))
       (copied_call_statement os p q x) fr d w k o r i e1 es (same_at os fr d w k o r i j e1 es n h)
-  basic_stands os fr d w p q u v i j Dummy a r k o e es au av n f h = same_at os fr d w k o r i j (all_entries (label_entries a) 0 e) es n h
+  basic_stands os fr d w p q u v i j Dummy a r k o e es au av n f h =
+      same_at os fr d w k o r i j (all_entries (label_entries a) 0 e) es n h
 
-  pub statements_stand : (os : List Name) (fr : Frame) (d w : List Symbol) (p q : Places) (u v : Where) (i j : ℕ) (next : ℕ) (x : Statements) (a : List LabelPlace)
-      (r : List Declaration) (k o e : List Symbol) (es : List (List Symbol)) → u.owns ≡ i → v.owns ≡ i → j ≡ i + count_owns (owns_of_statements x [])
+  pub statements_stand : (os : List Name) (fr : Frame) (d w : List Symbol) (p q : Places) (u v : Where) (i j : ℕ) (next : ℕ) (x
+      : Statements) (a : List LabelPlace)
+      (r : List Declaration) (k o e : List Symbol) (es : List (List Symbol)) → u.owns ≡ i → v.owns ≡ i
+      → j ≡ i + count_owns (owns_of_statements x [])
       → IsFramed fr (owns_of_statements x r) → Stands os fr d w k o r j (all_entries (label_entries a) 0 e) es
-      → Stands os fr d w (text_statements (marked_text os) p u next x k) (text_statements (collected_text os) q v next x o) (owns_of_statements x r) i
+      → Stands os fr d w (text_statements (marked_text os) p u next x k) (text_statements (collected_text
+      os) q v next x o) (owns_of_statements x r) i
       (all_entries (label_entries (labels_of_statements x a)) 0 e) es
-  statements_stand os fr d w p q u v i j next NoStatements a r k o e es au av n f h = same_at os fr d w k o r i j (all_entries (label_entries a) 0 e) es n h
+  statements_stand os fr d w p q u v i j next NoStatements a r k o e es au av n f h =
+      same_at os fr d w k o r i j (all_entries (label_entries a) 0 e) es n h
   statements_stand os fr d w p q u v i j next (MoreStatements l s ss) a r k o e es au av n f h =
       let i1 = i + owns_in_statement s in
       let n1 : j ≡ i1 + count_owns (owns_of_statements ss []) = omega (arith, n, count_statement s (owns_of_statements ss [])) in
@@ -190,11 +221,14 @@ mutual
       let h1 = statements_stand os fr d w p q u1 v1 i1 j next ss a r k o e es (ap (λ z. z + owns_in_statement s) au)
       (ap (λ z. z + owns_in_statement s) av) n1 (behind_statement_framed fr s (owns_of_statements ss r) f) h in
       ap (step (word Semicolon l)) (statement_stands os fr d w p q u v i i1 (next_line ss next) s (labels_of_statements ss a)
-      (owns_of_statements ss r) (text_statements (marked_text os) p u1 next ss k) (text_statements (collected_text os) q v1 next ss o) e es
+      (owns_of_statements ss r) (text_statements (marked_text os) p u1 next ss k) (text_statements (collected_text
+      os) q v1 next ss o) e es
       au av refl f h1)
 
-  pub group_stands : (os : List Name) (fr : Frame) (d w : List Symbol) (p q : Places) (u v : Where) (i j : ℕ) (x : Group) (a : List LabelPlace)
-      (r : List Declaration) (k o e : List Symbol) (es : List (List Symbol)) → u.owns ≡ i → v.owns ≡ i → j ≡ i + count_owns (owns_of_group x [])
+  pub group_stands : (os : List Name) (fr : Frame) (d w : List Symbol) (p q : Places) (u v : Where) (i j : ℕ) (x : Group) (a :
+      List LabelPlace)
+      (r : List Declaration) (k o e : List Symbol) (es : List (List Symbol)) → u.owns ≡ i → v.owns ≡ i
+      → j ≡ i + count_owns (owns_of_group x [])
       → IsFramed fr (owns_of_group x r) → Stands os fr d w k o r j (all_entries (label_entries a) 0 e) es
       → Stands os fr d w (text_group (marked_text os) p u x k) (text_group (collected_text os) q v x o) (owns_of_group x r) i
       (all_entries (label_entries (labels_of_group x a)) 0 e) es
@@ -207,7 +241,8 @@ mutual
       let o0 : List Symbol = word End m ∷ shuts MCompound m ∷ o in
       let k1 = text_statements (marked_text os) p u1 m ss k0 in
       let o1 = text_statements (collected_text os) q v1 m ss o0 in
-      let h0 : Stands os fr d w k0 o0 r j (all_entries (label_entries a) 0 e) es = ap (λ z. step (word End m) (step (shuts MCompound m) z)) h in
+      let h0 : Stands os fr d w k0 o0 r j (all_entries (label_entries a) 0 e) es =
+      ap (λ z. step (word End m) (step (shuts MCompound m) z)) h in
       let h1 = statements_stand os fr d w p q u1 v1 i1 j m ss a r k0 o0 e es (ap (λ z. z + owns_in_statement s) au)
       (ap (λ z. z + owns_in_statement s) av) n1 (behind_statement_framed fr s (owns_of_statements ss r) f) h0 in
       ap (λ z. step (opens MCompound l) (step (word Begin l) z)) (statement_stands os fr d w p q u v i i1 (next_line ss m) s
@@ -261,10 +296,12 @@ mutual
       let h0 : Stands os fr d w k0 o0 r j [] (e1 ∷ es) = ap (λ y. step (word End z) (step (shuts MBlock z) y)) h in
       let h1 = statements_stand os fr d w p1 q1 u4 v4 j3 j z ss [] r k0 o0 [] (e1 ∷ es) (ap (λ y. y + owns_in_statement s) au3)
       (ap (λ y. y + owns_in_statement s) av3) n3 f1 h0 in
-      let h2 = statement_stands os fr d w p1 q1 u3 v3 j2 j3 (next_line ss z) s (labels_of_statements ss []) r1 k1 o1 [] (e1 ∷ es) au3 av3
+      let h2 = statement_stands os fr d w p1 q1 u3 v3 j2 j3 (next_line ss z) s (labels_of_statements ss []) r1 k1 o1 [] (e1
+      ∷ es) au3 av3
       refl f2 h1 in
       let h3 = declarations_stand os fr d w p1 q1 u2 v2 j1 j2 ds r2 k2 o2 b2 (e1 ∷ es) au2 av2 refl f3 h2 in
-      let h4 = declaration_stands os fr d w p1 q1 u1 v1 i j1 m x r3 k3 o3 b3 (e1 ∷ es) au av refl f (ap (step (word Semicolon m)) h3) in
+      let h4 = declaration_stands os fr d w p1 q1 u1 v1 i j1 m x r3 k3 o3 b3 (e1
+      ∷ es) au av refl f (ap (step (word Semicolon m)) h3) in
       let h5 : Stands os fr d w k4 o4 (owns_of_declaration x r3) i b4 (e1 ∷ es) = ap (step (word Begin l)) h4 in
       let d5 = hoisted_text (owns_of_declaration x r3) i d in
       let w5 = hoisted_entries (owns_of_declaration x r3) i w in
@@ -274,10 +311,13 @@ mutual
       ∙ ap (λ y. calm (opens MBlock l ∷ entries_of Collected x y l (entries_of_all Collected ds (y + owns_in_declaration x) l
       (all_entries (label_entries ls) l o4))) d5 (e1 ∷ es) w5 fr) (back av)
 
-  pub conditional_stands : (os : List Name) (fr : Frame) (d w : List Symbol) (p q : Places) (u v : Where) (i j : ℕ) (next : ℕ) (x : Conditional) (a : List LabelPlace)
-      (r : List Declaration) (k o e : List Symbol) (es : List (List Symbol)) → u.owns ≡ i → v.owns ≡ i → j ≡ i + count_owns (owns_of_conditional x [])
+  pub conditional_stands : (os : List Name) (fr : Frame) (d w : List Symbol) (p q : Places) (u v : Where) (i j : ℕ) (next : ℕ)
+      (x : Conditional) (a : List LabelPlace)
+      (r : List Declaration) (k o e : List Symbol) (es : List (List Symbol)) → u.owns ≡ i → v.owns ≡ i
+      → j ≡ i + count_owns (owns_of_conditional x [])
       → IsFramed fr (owns_of_conditional x r) → Stands os fr d w k o r j (all_entries (label_entries a) 0 e) es
-      → Stands os fr d w (text_conditional (marked_text os) p u next x k) (text_conditional (collected_text os) q v next x o) (owns_of_conditional x r) i
+      → Stands os fr d w (text_conditional (marked_text os) p u next x k) (text_conditional (collected_text
+      os) q v next x o) (owns_of_conditional x r) i
       (all_entries (label_entries (labels_of_conditional x a)) 0 e) es
   conditional_stands os fr d w p q u v i j next (IfThen ls l b m x) a r k o e es au av n f h =
       let y = shuts MConditional (last_conditional (IfThen ls l b m x)) in
@@ -287,7 +327,8 @@ mutual
       let o2 = text_unconditional (collected_text os) q v next x o1 in
       let h2 = unconditional_stands os fr d w p q u v i j next x a r k1 o1 e es au av n f (ap (step y) h) in
       ap (step (opens MConditional (first_conditional (IfThen ls l b m x)))) (labelled os fr d w
-      (word If l ∷ text_expr (marked_text os) p b (word Then m ∷ k2)) (word If l ∷ text_expr (collected_text os) q b (word Then m ∷ o2))
+      (word If l ∷ text_expr (marked_text os) p b (word Then m ∷ k2)) (word If l
+      ∷ text_expr (collected_text os) q b (word Then m ∷ o2))
       (owns_of_unconditional x r) i ls (labels_of_unconditional x a) e es
       (copied_at os (λ y. word If l ∷ text_expr (marked_text os) p b (word Then m ∷ y))
       (λ y. word If l ∷ text_expr (collected_text os) q b (word Then m ∷ y)) (condition_copied os p q l m b) fr d w k2 o2
@@ -307,14 +348,17 @@ mutual
       let h2 = statement_stands os fr d w p q u1 v1 i1 j next s a r k1 o1 e es (ap (λ c. c + owns_in_unconditional x) au)
       (ap (λ c. c + owns_in_unconditional x) av) n1 (behind_statement_framed fr (OneUnconditional x) (owns_of_statement s r) f)
       (ap (step y) h) in
-      let h3 = unconditional_stands os fr d w p q u v i i1 z x (labels_of_statement s a) (owns_of_statement s r) k2 o2 e es au av refl f
+      let h3 = unconditional_stands os fr d w p q u v i i1 z x (labels_of_statement s a) (owns_of_statement s r) k2 o2 e es au
+      av refl f
       (ap (step (word Else z)) h2) in
       ap (step (opens MConditional (first_conditional (IfElse ls l b m x z s)))) (labelled os fr d w
-      (word If l ∷ text_expr (marked_text os) p b (word Then m ∷ k3)) (word If l ∷ text_expr (collected_text os) q b (word Then m ∷ o3))
+      (word If l ∷ text_expr (marked_text os) p b (word Then m ∷ k3)) (word If l
+      ∷ text_expr (collected_text os) q b (word Then m ∷ o3))
       (owns_of_unconditional x (owns_of_statement s r)) i ls (labels_of_unconditional x (labels_of_statement s a)) e es
       (copied_at os (λ y. word If l ∷ text_expr (marked_text os) p b (word Then m ∷ y))
       (λ y. word If l ∷ text_expr (collected_text os) q b (word Then m ∷ y)) (condition_copied os p q l m b) fr d w k3 o3
-      (owns_of_unconditional x (owns_of_statement s r)) i (all_entries (label_entries (labels_of_unconditional x (labels_of_statement s a))) 0 e) es h3))
+      (owns_of_unconditional x (owns_of_statement s r)) i (all_entries (label_entries
+      (labels_of_unconditional x (labels_of_statement s a))) 0 e) es h3))
   conditional_stands os fr d w p q u v i j next (IfLoop ls l b m x) a r k o e es au av n f h =
       let y = shuts MConditional (last_conditional (IfLoop ls l b m x)) in
       let k1 : List Symbol = y ∷ k in
@@ -323,14 +367,17 @@ mutual
       let o2 = text_loop (collected_text os) q v next x o1 in
       let h2 = loop_stands os fr d w p q u v i j next x a r k1 o1 e es au av n f (ap (step y) h) in
       ap (step (opens MConditional (first_conditional (IfLoop ls l b m x)))) (labelled os fr d w
-      (word If l ∷ text_expr (marked_text os) p b (word Then m ∷ k2)) (word If l ∷ text_expr (collected_text os) q b (word Then m ∷ o2))
+      (word If l ∷ text_expr (marked_text os) p b (word Then m ∷ k2)) (word If l
+      ∷ text_expr (collected_text os) q b (word Then m ∷ o2))
       (owns_of_loop x r) i ls (labels_of_loop x a) e es
       (copied_at os (λ y. word If l ∷ text_expr (marked_text os) p b (word Then m ∷ y))
       (λ y. word If l ∷ text_expr (collected_text os) q b (word Then m ∷ y)) (condition_copied os p q l m b) fr d w k2 o2
       (owns_of_loop x r) i (all_entries (label_entries (labels_of_loop x a)) 0 e) es h2))
 
-  pub loop_stands : (os : List Name) (fr : Frame) (d w : List Symbol) (p q : Places) (u v : Where) (i j : ℕ) (next : ℕ) (x : Loop) (a : List LabelPlace)
-      (r : List Declaration) (k o e : List Symbol) (es : List (List Symbol)) → u.owns ≡ i → v.owns ≡ i → j ≡ i + count_owns (owns_of_loop x [])
+  pub loop_stands : (os : List Name) (fr : Frame) (d w : List Symbol) (p q : Places) (u v : Where) (i j : ℕ) (next : ℕ) (x :
+      Loop) (a : List LabelPlace)
+      (r : List Declaration) (k o e : List Symbol) (es : List (List Symbol)) → u.owns ≡ i → v.owns ≡ i
+      → j ≡ i + count_owns (owns_of_loop x [])
       → IsFramed fr (owns_of_loop x r) → Stands os fr d w k o r j (all_entries (label_entries a) 0 e) es
       → Stands os fr d w (text_loop (marked_text os) p u next x k) (text_loop (collected_text os) q v next x o) (owns_of_loop x r) i
       (all_entries (label_entries (labels_of_loop x a)) 0 e) es

@@ -12,9 +12,11 @@ insert_append [] qs F = refl
 insert_append (p ∷ ps) qs F = insert_append ps qs (insert_by p F)
 
 -- what is found late stands before what was found since
-pub late : (q l : ℕ) (kinds : List TypeFault) (low high : ℕ) (ps : List Fault) → IsRising low high ps → q < low → (F : List Fault) → insert_all (on_place q l kinds) (insert_all ps F) ≡ insert_all ps (insert_all (on_place q l kinds) F)
+pub late : (q l : ℕ) (kinds : List TypeFault) (low high : ℕ) (ps : List Fault) → IsRising low high ps → q < low
+    → (F : List Fault) → insert_all (on_place q l kinds) (insert_all ps F) ≡ insert_all ps (insert_all (on_place q l kinds) F)
 late q l [] low high ps r less F = refl
-late q l (kind ∷ kinds) low high ps r less F = insert_past (record { position = q; line = l; kind = fault_kind kind }) low high ps r less F
+late q l (kind ∷ kinds) low high ps r less F =
+    insert_past (record { position = q; line = l; kind = fault_kind kind }) low high ps r less F
 
 -- rising lists
 pub lower : (low lower high : ℕ) (ps : List Fault) → lower ≤ low → IsRising low high ps → IsRising lower high ps
@@ -40,7 +42,8 @@ told_both (f ∷ fs) gs = ap (λ w. as_told f ∷ w) (told_both fs gs)
 pub both : (a b c : ℕ) (ps qs : List Fault) (fs gs : TypeFaults) → Fits a b ps fs → Fits b c qs gs → Fits a c (ps ++ qs) (fs ++ gs)
 both a b c ps qs fs gs f g = record {
   rising = rising_both a b c ps qs f.rising g.rising;
-  same = unplaced_both ps qs ∙ ap (λ w. w ++ map unplaced qs) f.same ∙ ap (λ w. map as_told fs ++ w) g.same ∙ back (told_both fs gs);
+  same = unplaced_both ps qs ∙ ap (λ w. w ++ map unplaced qs) f.same ∙ ap (λ w. map as_told fs ++ w) g.same
+      ∙ back (told_both fs gs);
 }
 
 pub one : (q l : ℕ) (kinds : List TypeFault) → Fits q (suc q) (on_place q l kinds) (on_symbol l kinds)
@@ -57,22 +60,33 @@ pub ends : (a b : ℕ) (ps : List Fault) (fs : TypeFaults) → Fits a b ps fs �
 ends a b ps fs f = rising_ends a b ps f.rising
 
 -- the fault of an operator, whose left operand was found wrong when it was taken, or whose right one when it ended
-pub operator : (fx fy : Bool) (q i : ℕ) (px py F : List Fault) (high : ℕ) → IsRising (suc q) high py → raise q i (falls (fx && not fy) WrongOperand) (insert_all py (raise q i (falls (not fx) WrongOperand) (insert_all px F))) ≡ insert_all (px ++ on_place q i (falls (not (fx && fy)) WrongOperand) ++ py) F
-operator fx fy q i px py F high r = by_both fx fy ∙ back (insert_append (px ++ on_place q i (falls (not (fx && fy)) WrongOperand)) py F ∙ ap (insert_all py) (insert_append px (on_place q i (falls (not (fx && fy)) WrongOperand)) F))
+pub operator : (fx fy : Bool) (q i : ℕ) (px py F : List Fault) (high : ℕ) → IsRising (suc q) high py
+    → raise q i (falls (fx && not fy) WrongOperand) (insert_all py (raise q i (falls (not fx) WrongOperand) (insert_all px F)))
+    ≡ insert_all (px ++ on_place q i (falls (not (fx && fy)) WrongOperand) ++ py) F
+operator fx fy q i px py F high r = by_both fx fy
+    ∙ back (insert_append (px ++ on_place q i (falls (not (fx && fy)) WrongOperand)) py F
+    ∙ ap (insert_all py) (insert_append px (on_place q i (falls (not (fx && fy)) WrongOperand)) F))
   where
-    by_both : (fx fy : Bool) → raise q i (falls (fx && not fy) WrongOperand) (insert_all py (raise q i (falls (not fx) WrongOperand) (insert_all px F))) ≡ insert_all py (raise q i (falls (not (fx && fy)) WrongOperand) (insert_all px F))
+    by_both : (fx fy : Bool) → raise q i (falls (fx && not fy) WrongOperand) (insert_all py (raise q i
+        (falls (not fx) WrongOperand) (insert_all px F))) ≡ insert_all py (raise q i (falls (not (fx &&
+        fy)) WrongOperand) (insert_all px F))
     by_both false fy = refl
     by_both true true = refl
     by_both true false = late q i (WrongOperand ∷ []) (suc q) high py r (omega arith) (insert_all px F)
 
-pub prefix : (q i : ℕ) (kinds : List TypeFault) (py F : List Fault) (high : ℕ) → IsRising (suc q) high py → raise q i kinds (insert_all py F) ≡ insert_all (on_place q i kinds ++ py) F
+pub prefix : (q i : ℕ) (kinds : List TypeFault) (py F : List Fault) (high : ℕ) → IsRising (suc q) high py
+    → raise q i kinds (insert_all py F) ≡ insert_all (on_place q i kinds ++ py) F
 prefix q i kinds py F high r = late q i kinds (suc q) high py r (omega arith) F ∙ back (insert_append (on_place q i kinds) py F)
 
 -- a part of a list that isn't the first one
-pub in_list : (t fits : Bool) (kind : TypeFault) (q i : ℕ) (py F : List Fault) (low high : ℕ) → IsRising low high py → suc q ≡ low → raise q i (falls (not t && not fits) kind) (insert_all py (raise q i (falls t ListTooLong) F)) ≡ insert_all (on_place q i (falls t ListTooLong ++ falls (not fits) kind) ++ py) F
-in_list t fits kind q i py F low high r h = by_test t ∙ back (insert_append (on_place q i (falls t ListTooLong ++ falls (not fits) kind)) py F)
+pub in_list : (t fits : Bool) (kind : TypeFault) (q i : ℕ) (py F : List Fault) (low high : ℕ) → IsRising low high py
+    → suc q ≡ low → raise q i (falls (not t && not fits) kind) (insert_all py (raise q i (falls t ListTooLong) F))
+    ≡ insert_all (on_place q i (falls t ListTooLong ++ falls (not fits) kind) ++ py) F
+in_list t fits kind q i py F low high r h = by_test t
+    ∙ back (insert_append (on_place q i (falls t ListTooLong ++ falls (not fits) kind)) py F)
   where
-    by_test : (t : Bool) → raise q i (falls (not t && not fits) kind) (insert_all py (raise q i (falls t ListTooLong) F)) ≡ insert_all py (raise q i (falls t ListTooLong ++ falls (not fits) kind) F)
+    by_test : (t : Bool) → raise q i (falls (not t && not fits) kind) (insert_all py (raise q i (falls t ListTooLong) F))
+        ≡ insert_all py (raise q i (falls t ListTooLong ++ falls (not fits) kind) F)
     by_test true = refl
     by_test false = late q i (falls (not fits) kind) low high py r (omega (arith, h)) F
 
