@@ -6,13 +6,13 @@ use Rattle.gier_tree.specs.Words.{words_in}
 use Rattle.gier_flat.specs.Example.{example, nested}
 use Rattle.gier_flat.specs.Premises.{Premises}
 
-words_are : words_in (code_program (hoist example)) ≡ 16
+words_are : words_in (code_program (hoist example)) ≡ 22
 words_are = refl
 
 pub example_premises : Premises (hoist example)
 example_premises = record {
-  part = (tt, (((refl, tt), (tt, (omega arith, omega arith))), ((tt, (omega arith, omega arith), (tt, refl), (tt, refl)), tt)));
-  scopes = ((refl, tt), (((λ e. cc), tt), ((tt, ((λ e. cc), tt), ((λ e. cc), tt)), tt)));
+  part = (tt, (((refl, tt), (tt, (omega arith, omega arith))), ((tt, (omega arith, omega arith), (tt, refl), (tt, refl)), ((tt, (refl, (omega arith, (omega arith, (omega arith, (omega arith, (omega arith, (omega arith, tt)))))))), tt))));
+  scopes = ((refl, tt), (((λ e. cc), tt), ((tt, ((λ e. cc), tt), ((λ e. cc), tt)), (((λ e. cc), tt), tt))));
   short = omega (arith, words_are);
   few = omega arith;
   room = omega arith;

@@ -17,6 +17,8 @@ mod LeftParts
 mod Assignments
 mod GoTo
 mod NextRuns
+mod Strings
+mod TextPrinting
 mod Statements
 mod RestFromLabel
 mod Scopes

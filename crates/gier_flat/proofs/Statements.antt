@@ -1,6 +1,6 @@
 -- Statements: printing, sequences, labels and conditional statements.
 use Rattle.std.proofs.Common.{◌≡◌, ℕ, suc, ◌+◌, ◌<◌, ◌≤◌, Bool, true, false, ℤ, List, [], ◌∷◌, ◌++◌, length, Option, Some, refl, sym, ap, ◌∙◌, subst, arith}
-use Rattle.std.specs.Prelude.{◌^◌, Result, Ok, Err, max, if◌then◌else◌, ⊤}
+use Rattle.std.specs.Prelude.{◌^◌, map, Result, Ok, Err, max, if◌then◌else◌, ⊤}
 use Rattle.std.proofs.lemmas.Bool.{lt-ltb}
 use Rattle.std.proofs.lemmas.List.{append-nil}
 use Rattle.gier_word.specs.declared.alarm.Alarm.{Alarm}
@@ -23,7 +23,7 @@ use Rattle.gier_tree.specs.Need.{need_expr}
 use Rattle.gier_env.specs.Statements.{run}
 use Rattle.gier_meaning.specs.Tree.{Assign}
 use Rattle.gier_tree.specs.Places.{Places}
-use Rattle.gier_tree.specs.Trees.{Expr, Call, Alone, WithActuals, OneExpr, NoActuals}
+use Rattle.gier_tree.specs.Trees.{Byte, Expr, Call, Alone, WithActuals, OneExpr, AString, NoActuals}
 use Rattle.gier_meaning.specs.Plain.{expr}
 use Rattle.gier_meaning.specs.Live.{Live}
 use Rattle.gier_meaning.specs.State.{State}
@@ -45,6 +45,7 @@ use Rattle.gier_flat.proofs.Values.{Same, Runs}
 use Rattle.gier_flat.proofs.Expressions.{expr_runs, choice_runs}
 use Rattle.gier_flat.proofs.Assignments.{NothingShown, assignment_runs}
 use Rattle.gier_flat.proofs.GoTo.{jump_runs}
+use Rattle.gier_flat.proofs.TextPrinting.{text_runs}
 use Rattle.gier_flat.proofs.AllPasses.{unconditional_passes, statement_passes}
 use Rattle.gier_flat.proofs.Continuations.{Passes}
 use Rattle.gier_flat.proofs.Expressions.{there, there_after, there_here, test_reach}
@@ -62,10 +63,10 @@ use Rattle.gier_meaning.specs.Plain.{statement, statements, unconditional, basic
 use Rattle.gier_meaning.specs.Tree as plain_tree
 use Rattle.gier_env.specs.Statements.{run_all}
 use Rattle.gier_meaning.specs.State.{with_printed}
-use Rattle.gier_tree.specs.declared.kind.Kind.TheVariants.{OutInteger, OutCr, OutChar}
-use Rattle.gier_tree.specs.Coded.{code_call, call_code, alone_code, part_of}
+use Rattle.gier_tree.specs.declared.kind.Kind.TheVariants.{OutInteger, OutText, OutCr, OutChar}
+use Rattle.gier_tree.specs.Coded.{code_call, call_code, alone_code, part_of, string_code}
 use Rattle.gier_tree.specs.Need.{need_call}
-use Rattle.gier_meaning.specs.Plain.{call}
+use Rattle.gier_meaning.specs.Plain.{call, bytes_of}
 use Rattle.gier_meaning.specs.Operators as meaning
 use Rattle.gier_meaning.specs.Outcome.{either}
 use Rattle.gier_flat.proofs.Setting.{Setting}
@@ -74,6 +75,14 @@ use Rattle.gier_flat.proofs.NextRuns.{RunsStatement, AreWithin, NextRuns}
 abbrev IsNotOutCr : Kind → Type 0
 IsNotOutCr OutCr = ⊥
 IsNotOutCr kind = ⊤
+
+abbrev IsNotOutText : Kind → Type 0
+IsNotOutText OutText = ⊥
+IsNotOutText kind = ⊤
+
+same_bytes : (bytes : List Byte) → map (λ (b : Byte). b.value) bytes ≡ bytes_of bytes
+same_bytes [] = refl
+same_bytes (b ∷ bytes) = ap (λ bs. b.value ∷ bs) (same_bytes bytes)
 
 module _ (setting : Setting) where
   module _ (n : ℕ) (env : Env) (p : Places) (lives : Live) where
@@ -255,6 +264,16 @@ module _ (setting : Setting) where
           need_out OutInteger formals need is = omega arith
           need_out OutChar formals need is = omega arith
           need_out kind formals need is = absurd is
+      called_runs (WithActuals x l (AString k bytes j) NoActuals m) f level = out_text (p x.number).what.kind (p x.number).what.count (p x.number).what.formals (p x.number).level (p x.number).address (found env x.number) x.line f.0 (λ K w need m s h b i. h.frames env p b i x.number)
+        where
+          out_text : (kind : Kind) (count : ℕ) (formals : List Kind) (l a : ℕ) (d : Option Denoted) (line : ℕ) → kind ≡ OutText → ((K : Known) (w need : ℕ) (m : Machine) (s : State Closure) → RunInvariant setting.text setting.size K w need env p m s lives → (b : ℕ) → K.frame env p b → Shows setting.text K m.regs.words s.store b kind (record { what = record { kind = kind; count = count; formals = formals }; level = l; address = a }) d)
+              → RunsStatement setting n env p lives (call_need kind 1 (max (first_need formals 0 0) 0) (max 0 0)) (call_code (record { what = record { kind = kind; count = count; formals = formals }; level = l; address = a }) line (part_of p (AString k bytes j) ∷ []) level)
+              (λ s. then_do (call_of setting.size next d (plain_tree.MoreExprs (plain_tree.Quoted (bytes_of bytes) k) plain_tree.NoExprs) env (λ kinds s1. handed setting.size next kinds (plain_tree.MoreExprs (plain_tree.Quoted (bytes_of bytes) k) plain_tree.NoExprs) env line lives s1) line lives s) (λ v s1. Gives Done s1))
+          out_text OutText count formals l a d line is shows = λ K w m s st go le h at here.
+              let is_standard : d ≡ Some (AStandard OutText) = shows K w 0 m s h h.sees.0 h.sees.3 in
+              subst (λ d. RefinesOutcome setting.text setting.size Finished K K.label m s (Behind setting.text setting.size go) m.regs.base m.regs.top (NothingShown setting K) (then_do (call_of setting.size next d (plain_tree.MoreExprs (plain_tree.Quoted (bytes_of bytes) k) plain_tree.NoExprs) env (λ kinds s1. handed setting.size next kinds (plain_tree.MoreExprs (plain_tree.Quoted (bytes_of bytes) k) plain_tree.NoExprs) env line lives s1) line lives s) (λ v s1. Gives Done s1))) (sym is_standard)
+              (text_runs setting n env p lives K w 0 m s (bytes_of bytes) k line st go h f.1 (subst (λ b. At setting.text st (string_code b k st (λ s1. order op.Lib 0 2 line s1 go))) (same_bytes bytes) at) here)
+          out_text kind count formals l a d line is shows = absurd (subst IsNotOutText is tt)
       called_runs (WithActuals x l a more m) f level = absurd f
 
       module _ (deeper : NextRuns setting n next) where

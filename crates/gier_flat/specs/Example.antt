@@ -1,10 +1,10 @@
--- Programs for which the law's premises hold: a label, a conditional statement with a go to it, and what is printed; and
--- blocks, one within the other, with a go to out of the inner one and an own variable.
+-- Programs for which the law's premises hold: a label, a conditional statement with a go to it, and what is printed,
+-- a string of two words too; and blocks, one within the other, with a go to out of the inner one and an own variable.
 use Rattle.std.specs.Prelude.{ℕ, [], ◌∷◌}
 use Rattle.gier_tree.specs.SpellExamples.{at}
 use Rattle.gier_tree.specs.Trees.{Add, LessThan, OneSimple, OneImplication, OneDisjunction, OneConjunction, OneNegation}
 use Rattle.gier_tree.specs.Trees.{OneRelation, OneArithmetic, Compared, OneTerm, Summed, OneFactor, OnePrimary, Numeral}
-use Rattle.gier_tree.specs.Trees.{OneCall, Alone, WithActuals, OneExpr, NoActuals, only, MkCompound, NoStatements}
+use Rattle.gier_tree.specs.Trees.{Byte, AString, OneCall, Alone, WithActuals, OneExpr, NoActuals, only, MkCompound, NoStatements}
 use Rattle.gier_tree.specs.Trees.{MoreStatements, OneUnconditional, OneConditional, MkUnconditional, Jump, CallStatement}
 use Rattle.gier_tree.specs.Trees.{IfThen, IfElse, OneName, Assign, OneGroup, MkBlock, DeclareType, MkNames, IntegerType}
 use Rattle.gier_tree.specs.Trees.{BooleanType, DeclareOwn, NoDeclarations, MoreDeclarations, Primary, Relation, Term, Expr}
@@ -31,8 +31,17 @@ choosing =
     OneConditional (IfElse [] 3 test 3 (MkUnconditional [] (Jump 3 (only (OneCall (Alone (at 8 3)))))) 4
     (OneUnconditional (MkUnconditional [] (CallStatement (Alone (at 2 4))))))
 
+-- outtext(`hello!')
+abbrev pub byte : (value : ℕ) → Byte
+byte value = record { value = value; line = 5 }
+
+abbrev pub greeting : Statement
+greeting =
+    OneUnconditional (MkUnconditional [] (CallStatement (WithActuals (at 1 5) 5
+    (AString 5 (byte 104 ∷ byte 101 ∷ byte 108 ∷ byte 108 ∷ byte 111 ∷ byte 33 ∷ []) 5) NoActuals 5)))
+
 abbrev pub example : Program
-example = MkProgram [] (MkCompound 1 printing (MoreStatements 2 choosing NoStatements) 5) 5
+example = MkProgram [] (MkCompound 1 printing (MoreStatements 2 choosing (MoreStatements 4 greeting NoStatements)) 5) 5
 
 abbrev pub variable : (number line : ℕ) → Primary
 variable number line = OneCall (Alone (at number line))

@@ -1,9 +1,9 @@
 -- The part of the language for which the law is proved: what it asks of expressions and statements in these places.
 use Rattle.std.proofs.Common.{◌≡◌, ◌<◌, suc, List, [], ◌∷◌}
-use Rattle.std.specs.Prelude.{⊤}
+use Rattle.std.specs.Prelude.{⊤, ℕ}
 use Rattle.gier_tree.specs.declared.kind.Kind.{Kind}
 use Rattle.gier_tree.specs.declared.kind.Kind.TheVariants.{IntegerVariable, BooleanVariable, IntegerValue, BooleanValue, Label}
-use Rattle.gier_tree.specs.declared.kind.Kind.TheVariants.{OutInteger, OutCr, OutChar, InInteger, Abs, Sign}
+use Rattle.gier_tree.specs.declared.kind.Kind.TheVariants.{OutInteger, OutText, OutCr, OutChar, InInteger, Abs, Sign}
 use Rattle.gier_tree.specs.Entries.{entries_numbers, block_entries, program_entries, numbers_unconditional}
 use Rattle.gier_tree.specs.OwnCount.{owns_in_unconditional}
 use Rattle.gier_tree.specs.Places.{Places, block_places, program_places}
@@ -12,11 +12,12 @@ use Rattle.gier_tree.specs.Trees.{Expr, OneSimple, IfExpr, Simple, OneImplicatio
 use Rattle.gier_tree.specs.Trees.{Implies, Disjunction, OneConjunction, Either, Conjunction, OneNegation, Both, Negation}
 use Rattle.gier_tree.specs.Trees.{OneRelation, Negated, Relation, OneArithmetic, Compared, Arithmetic, OneTerm, Signed, Summed}
 use Rattle.gier_tree.specs.Trees.{Term, OneFactor, Multiplied, Factor, OnePrimary, Raised, Primary, Numeral, Logical, Bracketed}
-use Rattle.gier_tree.specs.Trees.{OneCall, OneElement, Call, Alone, WithActuals, OneExpr, NoActuals, LeftSide, OneName}
-use Rattle.gier_tree.specs.Trees.{LeftElement, LeftPart, LabelPlace, Group, MkBlock, MkCompound, Statements, NoStatements}
+use Rattle.gier_tree.specs.Trees.{OneCall, OneElement, Call, Alone, WithActuals, OneExpr, AString, NoActuals, LeftSide}
+use Rattle.gier_tree.specs.Trees.{OneName, LeftElement, LeftPart, LabelPlace, Group, MkBlock, MkCompound, Statements, NoStatements}
 use Rattle.gier_tree.specs.Trees.{MoreStatements, Statement, OneUnconditional, OneConditional, OneLoop, Unconditional}
 use Rattle.gier_tree.specs.Trees.{MkUnconditional, Basic, OneGroup, Assign, Jump, CallStatement, Dummy, Conditional, IfThen}
 use Rattle.gier_tree.specs.Trees.{IfElse, IfLoop, Program, MkProgram}
+use Rattle.gier_meaning.specs.Plain.{bytes_of}
 use Rattle.gier_flat.specs.FairScope.{FairScope}
 
 abbrev pub IsCell : Kind → Type 0
@@ -43,6 +44,11 @@ abbrev pub PrintsNumber : Kind → Type 0
 PrintsNumber OutInteger = ⊤
 PrintsNumber OutChar = ⊤
 PrintsNumber kind = ⊥
+
+-- each of them fits in a byte
+abbrev pub AreBytes : List ℕ → Type 0
+AreBytes [] = ⊤
+AreBytes (b ∷ bytes) = (b < 256) × AreBytes bytes
 
 module _ (p : Places) where
   abbrev mutual
@@ -131,6 +137,7 @@ module _ (p : Places) where
   -- what is printed
   abbrev pub FairCalled : Call → Type 0
   FairCalled (Alone x) = (p x.number).what.kind ≡ OutCr
+  FairCalled (WithActuals x l (AString k bytes j) NoActuals m) = ((p x.number).what.kind ≡ OutText) × AreBytes (bytes_of bytes)
   FairCalled (WithActuals x l (OneExpr e) NoActuals m) = PrintsNumber (p x.number).what.kind × FairExpr e
   FairCalled (WithActuals x l a more m) = ⊥
 

@@ -11,7 +11,7 @@ pub fn law_flat()
     ensures { RunIsMeaning }
 {}
 
-/// The premises hold of a program with a label, a conditional statement with a go to it, and printing.
+/// The premises hold of a program with a label, a conditional statement with a go to it, and printing, also of a string.
 pub fn law_flat_example()
     ensures { Premises (hoist example) }
 {}
