@@ -43,3 +43,6 @@ mod Labels
 mod ProgramActivation
 mod FromPremises
 mod Example
+mod PartKinds
+mod PartExpressions
+mod PartPrograms

@@ -4,3 +4,6 @@ pub mod Fair
 pub mod Premises
 pub mod Law
 pub mod Example
+pub mod Part
+pub mod BlockRooms
+pub mod WrittenLaw

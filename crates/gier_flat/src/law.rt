@@ -3,6 +3,7 @@ ghost use Rattle.gier_tree.specs.Hoist.{hoist};
 ghost use Rattle.gier_flat.specs.Example.{example, nested};
 ghost use Rattle.gier_flat.specs.Law.{RunIsMeaning};
 ghost use Rattle.gier_flat.specs.Premises.{Premises};
+ghost use Rattle.gier_flat.specs.WrittenLaw.{FaultlessRuns};
 
 /// Of each program of that part whose premises hold, with all data, permitted steps and words of stack, the flat run of its code
 /// tells the printed bytes, the ending, the steps charged, the greatest live words and the data left that the meaning with
@@ -19,4 +20,10 @@ pub fn law_flat_example()
 /// They hold of a program with a block in a block, variables of both, an own variable, and a go to that leaves the inner block.
 pub fn law_flat_nested()
     ensures { Premises (hoist nested) }
+{}
+
+/// Of each program as it is written, without faults of scopes and types, that uses only the part of the language and isn't too
+/// long, the flat run of its code tells what its meaning tells.
+pub fn law_flat_programs()
+    ensures { FaultlessRuns }
 {}
