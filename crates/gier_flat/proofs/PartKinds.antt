@@ -23,7 +23,7 @@ use Rattle.gier_tree.specs.Trees.{NoDeclarations, MoreDeclarations}
 use Rattle.gier_scope.specs.Scopes.{declares}
 use Rattle.gier_kinds.specs.Actuals.{Wanted, TheseFormals, wanted_by, formals_by}
 use Rattle.gier_kinds.specs.AllowedUses.{alone_type, called_type, left_type, is_statement, is_called_statement}
-use Rattle.gier_kinds.specs.Types.{ExprType, OfInteger, OfBoolean, OfLabel, Unknown, is_known}
+use Rattle.gier_kinds.specs.Types.{ExprType, OfInteger, OfBoolean, OfLabel, is_known}
 use Rattle.gier_fair.specs.InScope.{AreDistinct, identifiers}
 use Rattle.gier_fair.proofs.Apart.{neither}
 use Rattle.gier_fair.proofs.Lists.{each_both, each_right}

@@ -1,5 +1,5 @@
 -- Fair statements and programs of the part's form are of the part.
-use Rattle.std.proofs.Common.{◌≡◌, ℕ, suc, Bool, true, false, List, [], ◌∷◌, ◌++◌, refl, sym, ap, ◌∙◌, subst}
+use Rattle.std.proofs.Common.{ℕ, suc, Bool, false, List, [], ◌∷◌, ◌++◌, refl, ap, ◌∙◌, subst}
 use Rattle.std.specs.List.{AllByRecursion}
 use Rattle.gier_tree.specs.Declaring.{labels_of_statement, labels_of_statements, labels_of_unconditional, labels_of_basic, labels_of_group, labels_of_conditional}
 use Rattle.gier_tree.specs.Entries.{block_entries, declaration_entries, declarations_entries, label_entries, numbers_unconditional}
@@ -14,12 +14,11 @@ use Rattle.gier_tree.specs.Trees.{MoreStatements, Statement, OneUnconditional, O
 use Rattle.gier_tree.specs.Trees.{MkUnconditional, Basic, OneGroup, Assign, Jump, CallStatement, Dummy, Conditional, IfThen}
 use Rattle.gier_tree.specs.Trees.{IfElse, IfLoop, Program, MkProgram}
 use Rattle.gier_tree.specs.Written.{name_alone}
-use Rattle.gier_kinds.specs.AllowedUses.{left_type}
 use Rattle.gier_kinds.specs.Around.{hide}
 use Rattle.gier_kinds.specs.Types.{ExprType, OfBoolean, is_known}
 use Rattle.gier_fair.specs.Expressions as fair_expression
 use Rattle.gier_fair.specs.Fair as fair
-use Rattle.gier_fair.specs.InScope.{InScopeGroup, InScopeStatements, InScopeStatement, InScopeUnconditional, InScopeBasic, InScopeConditional, IsInScope, in_program}
+use Rattle.gier_fair.specs.InScope.{InScopeGroup, InScopeStatements, InScopeStatement, InScopeUnconditional, InScopeBasic, InScopeConditional, in_program}
 use Rattle.gier_fair.proofs.WholePrograms.{programs_are_fair}
 use Rattle.gier_flat.specs.BlockRooms.{RoomGroup, RoomStatements, RoomStatement, RoomUnconditional, RoomBasic, RoomConditional, RoomProgram}
 use Rattle.gier_flat.specs.Fair.{FairLabels, FairLeft, FairLefts, FairCalled, FairGroup, FairStatements, FairStatement, FairUnconditional, FairBasic, FairConditional, FairProgram}

@@ -3,7 +3,7 @@ ghost use Rattle.gier_tree.specs.Hoist.{hoist};
 ghost use Rattle.gier_flat.specs.Example.{example, nested};
 ghost use Rattle.gier_flat.specs.Law.{RunIsMeaning};
 ghost use Rattle.gier_flat.specs.Premises.{Premises};
-ghost use Rattle.gier_flat.specs.WrittenLaw.{FaultlessRuns};
+ghost use Rattle.gier_flat.specs.WrittenLaw.{FaultlessRuns, IsFaultless};
 
 /// Of each program of that part whose premises hold, with all data, permitted steps and words of stack, the flat run of its code
 /// tells the printed bytes, the ending, the steps charged, the greatest live words and the data left that the meaning with
@@ -26,4 +26,9 @@ pub fn law_flat_nested()
 /// long, the flat run of its code tells what its meaning tells.
 pub fn law_flat_programs()
     ensures { FaultlessRuns }
+{}
+
+/// The program of blocks in blocks meets these premises, as it is written.
+pub fn law_flat_faultless()
+    ensures { IsFaultless nested }
 {}

@@ -4,4 +4,4 @@
 
 mod law;
 
-pub use law::{law_flat, law_flat_example, law_flat_nested, law_flat_programs};
+pub use law::{law_flat, law_flat_example, law_flat_faultless, law_flat_nested, law_flat_programs};
